@@ -3,6 +3,7 @@
 # make example         builds the program and finds the best timing of a shipped street
 # make tree            prints the tree of the certificate CERT=FILE and adds up its leaves for the street STREET=FILE
 # make test            proves everything and runs every test
+# make check           runs all that a change has to pass besides `make test`, and prints a line for each
 # make check-examples  solves each shipped street, compares what is printed with its report, and checks its certificate
 # make check-docs      runs the commands of the documents, and compares what they print with what stands there
 # make check-pages     sees that what the documents say of the sources is true: tables, counts, names
@@ -10,7 +11,9 @@
 # make peers           solves made and shipped streets by cbc, glpsol and z3, and compares
 # make faults          runs the program with one call of the system refused or failed, each in turn (wants a compiler of C)
 # make believe         prints the definitions that a reader must believe to believe a verdict
+# make pictures        draws the shipped streets by the program and by a second one, and compares
 # make bench           times the program, and fractions and pivots beside plain Rust
+# make clean           takes away what was built, and what the documents' commands made in work/
 # make install         puts the program, its manual page, documents and examples under PREFIX (/usr/local)
 # make uninstall       takes them away
 # make help            prints these lines
@@ -63,12 +66,18 @@ check-examples: $(PROGRAM)
 check-docs: $(PROGRAM)
 	scripts/try-docs
 
+# What needs no built program, and is looked at before the gate too (.ci/run).
 check-pages:
 	scripts/pages
-	scripts/edits
 	scripts/unused
 	scripts/believe --check
-	scripts/cases
+
+# Each in its turn, also where one before it failed.
+CHECKS = pages unused 'believe --check' examples try-docs second pictures
+check: $(PROGRAM)
+	@status=0; for check in $(CHECKS); do \
+		if scripts/$$check; then echo "scripts/$$check: passed"; else echo "scripts/$$check: FAILED"; status=1; fi; \
+	done; exit $$status
 
 second: $(PROGRAM)
 	scripts/second
@@ -78,6 +87,12 @@ peers: $(PROGRAM)
 
 faults: $(PROGRAM)
 	scripts/faults
+
+pictures: $(PROGRAM)
+	scripts/pictures
+
+clean:
+	rm -rf crates/*/out work
 
 believe:
 	@scripts/believe verdict
@@ -102,4 +117,4 @@ uninstall:
 	rm -f $(DESTDIR)$(PREFIX)/bin/maxband $(MANUAL)
 	rm -rf $(DOCUMENTS)
 
-.PHONY: all help try example tree test check-examples check-docs check-pages second peers faults believe bench install uninstall
+.PHONY: all help try example tree test check check-examples check-docs check-pages second pictures peers faults believe bench clean install uninstall

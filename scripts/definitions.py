@@ -14,6 +14,8 @@ MARKS = r"(?:abbrev |unfoldable |opaque |pub )*"
 KIND = re.compile(rf"^{MARKS}(data|record|ruleset) {MARKS}([^\s:(){{}}]+)")
 SIGNED = re.compile(rf"^{MARKS}([^\s:(){{}}]+)(?: \{{[^}}]*\}})* ?:(?:\s|$)")
 OUTSIDE = ("use ", "pub use ", "infix", "open ", "syntax", "pub mod ", "mod ")
+# Calls that are read as definitions, by their clauses: those that the theorem of the program is the contract of.
+CALLS = {"maxband_run": ("run",)}
 # Files in which the goals of one function are answered, by names that the kit makes.
 ANSWERS = {"Answers", "Invariants", "Proof"}
 
@@ -101,7 +103,7 @@ class File:
 
 
 class Book:
-    """All definitions of specs/ and proofs/, the plain types of src/, and what each file imports."""
+    """All definitions of specs/ and proofs/, the plain types of src/, the top calls, and what each file imports."""
 
     def __init__(self, folders=("specs",)):
         self.files, self.definitions, self.types = {}, {}, {}
@@ -210,9 +212,11 @@ class Book:
             file.imports[each.group(2)] = ("type", (crate, each.group(2)))
         for each in found:
             self.add_type(file, crate, os.path.splitext(rest)[0].replace("/", "."), text, each)
-        run = re.search(r"(?ms)^pub fn run<.*?^\{", text) if crate == "maxband_run" else None
-        if run:
-            self.add(Definition(source, "run", ["run"], comment_before(text, run.start()), run.group(0).rstrip("{\n"), "", path, "call"))
+        for call in CALLS.get(crate, ()):
+            head = re.search(rf"(?ms)^pub fn {call}<.*?^\{{", text)
+            if head:
+                clauses = head.group(0).rstrip("{\n")
+                self.add(Definition(source, call, [call], comment_before(text, head.start()), clauses, "", path, "call"))
 
     def add_type(self, file, crate, place, text, found):
         """A plain type with what it is in contracts, or a trait with its clauses."""
@@ -267,6 +271,15 @@ class Book:
             elif missing is not None and self.is_here(where) and not self.is_module(where, name):
                 missing.add((module, f"{where}.{name}"))
         return found
+
+    def foreign(self, definition):
+        """The names of std and of the kit's crates that a definition has, as they are called there."""
+        file, bare = self.files[definition.module], plain(definition.around + "\n" + definition.text)
+        words = set(WORD.findall(bare))
+        if file.path.endswith(".rt"):
+            words |= set(re.findall(r"\w+", bare))
+        taken = [target for name, target in file.imports.items() if names_it(name, words, bare)]
+        return [name for module, name in taken if module.startswith("Rattle.") and not self.is_here(module)]
 
     def is_module(self, module, name):
         return f"{module}.{name}" in self.files or name == "TheVariants"

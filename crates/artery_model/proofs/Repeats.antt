@@ -1,5 +1,6 @@
 -- Names among the names that were seen.
-use Rattle.std.proofs.Common.{◌≡◌, ℕ, suc, ◌+◌, ◌<◌, List, [], ◌∷◌, ◌++◌, refl, sym, ◌∙◌, ap, map, Bor, nat_eq, ◌||◌, Bool, true, false, true≢false, if◌then◌else◌, not, length, drop, slice_index_or, Some, drop-cons, arith}
+use Rattle.std.proofs.Common.{◌≡◌, ℕ, suc, ◌+◌, ◌<◌, List, [], ◌∷◌, ◌++◌, refl, sym, ◌∙◌, ap, map, Bor, nat_eq, ◌||◌, Bool, true, false, true≢false}
+use Rattle.std.proofs.Common.{if◌then◌else◌, not, length, drop, slice_index_or, Some, drop-cons, arith}
 use Rattle.std.specs.Prelude.{codes}
 use Rattle.std.specs.List.{list_any}
 use Rattle.std.specs.Cmp.Lexicographic.{pointwise}
@@ -19,7 +20,8 @@ map_more [] k = refl
 map_more (x ∷ ks) k = ap (λ xs. x.now ∷ xs) (map_more ks k)
 
 -- a name that is new goes last
-pub goes_last : (ks more : List (Bor (List ℕ))) (seen new : Bool) (k : Bor (List ℕ)) → new ≡ not seen → more ≡ (if seen then ks else ks ++ k ∷ []) → new ≡ true → map (λ k. k.now) more ≡ map (λ k. k.now) ks ++ k.now ∷ []
+pub goes_last : (ks more : List (Bor (List ℕ))) (seen new : Bool) (k : Bor (List ℕ)) → new ≡ not seen → more ≡ (if seen then ks else ks ++ k ∷ [])
+    → new ≡ true → map (λ k. k.now) more ≡ map (λ k. k.now) ks ++ k.now ∷ []
 goes_last ks more true new k e f t = absurd (true≢false (sym t ∙ e))
 goes_last ks more false new k e f t = rw f (map_more ks k)
 

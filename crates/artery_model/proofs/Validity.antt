@@ -1,5 +1,6 @@
 -- An artery with no fault is valid.
-use Rattle.std.proofs.Common.{◌≡◌, ℕ, zero, suc, ℤ, pos, negsuc, ◌+◌, ◌-◌, ◌<◌, ◌≤◌, ◌==◌, ◌≤ℤ◌, ◌*ℤ◌, List, [], ◌∷◌, length, slice_index_or, Option, None, Some, Bool, true, false, true≢false, ◌&&◌, ◌||◌, not, if◌then◌else◌, nat_le, nat_lt, refl, sym, arith, not, subst}
+use Rattle.std.proofs.Common.{◌≡◌, ℕ, zero, suc, ℤ, pos, negsuc, ◌+◌, ◌-◌, ◌<◌, ◌≤◌, ◌==◌, ◌≤ℤ◌, ◌*ℤ◌, List, [], ◌∷◌, length, slice_index_or, Option}
+use Rattle.std.proofs.Common.{None, Some, Bool, true, false, true≢false, ◌&&◌, ◌||◌, not, if◌then◌else◌, nat_le, nat_lt, refl, sym, arith, not, subst}
 use Rattle.std.specs.Prelude.{codes}
 use Rattle.std.proofs.lemmas.Bool.Decides.{nat_tests}
 use Rattle.std.proofs.lemmas.Int.{ints}
@@ -13,7 +14,9 @@ use Rattle.progression.specs.declared.parts.Link.{Link}
 use Rattle.progression.specs.declared.parts.Pair.{Pair}
 use Rattle.artery_model.specs.Bounds.{most_signals_in, most_share_in}
 use Rattle.artery_model.specs.Faults.{Fault, first_fault, unless, each_numbered, artery_place, link_place}
-use Rattle.artery_model.specs.Limits.{within, in_range, pair_ranges, head_ranges, signal_tests, signal_ranges, change_ranges, link_tests, link_ranges, in_order, in_order_if_there, green_tests, has_green, limit_tests, link_limits, range_tests, rule_tests, artery_fault}
+use Rattle.artery_model.specs.Limits.{within, in_range, pair_ranges, head_ranges, signal_tests, signal_ranges, change_ranges, link_tests, link_ranges}
+use Rattle.artery_model.specs.Limits.{in_order, in_order_if_there, green_tests, has_green, limit_tests, link_limits, range_tests, rule_tests}
+use Rattle.artery_model.specs.Limits.{artery_fault}
 use Rattle.artery_model.specs.Valid.{IsQuantity, IsPair, IsChange, IsSignal, IsLink, IsOfFirst, IsValid}
 use Rattle.artery_model.specs.declared.kind.Kind.{Kind}
 

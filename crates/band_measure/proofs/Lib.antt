@@ -5,3 +5,5 @@ pub mod AllGrids
 pub mod Rooms
 pub mod Tries
 pub mod Pairs
+pub mod Parts
+pub mod Cuts

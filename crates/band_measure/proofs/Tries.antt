@@ -46,7 +46,8 @@ module _ (a : Street) (t : TimingRecord) (d : Dir) (n : ℕ) where
     better_found l c = let wide = c.0 in record {
       runs = f.runs;
       below = l;
-      widest = λ k b i. one_more (λ j. RunsOn a t d (pos (edge a t d j)) b → b ≤ band) (λ j o r. let w = h.widest j b o r in omega arith) (λ r. f.most b (subst (λ y. RunsOn a t d (pos y) b) (sym e) r)) k i;
+      widest = λ k b i. one_more (λ j. RunsOn a t d (pos (edge a t d j)) b → b ≤ band) (λ j o r. let w = h.widest j b o r in omega arith)
+          (λ r. f.most b (subst (λ y. RunsOn a t d (pos y) b) (sym e) r)) k i;
       least = one_more (λ j. RunsOn a t d (pos (edge a t d j)) band → x ≤ edge a t d j)
           (λ j o r.
           let w = h.widest j band o r in
@@ -62,7 +63,8 @@ module _ (a : Street) (t : TimingRecord) (d : Dir) (n : ℕ) where
     better_held c = let wide = c.0 in record {
       runs = h.runs;
       below = h.below;
-      widest = λ k b i. one_more (λ j. RunsOn a t d (pos (edge a t d j)) b → b ≤ held) (λ j o. h.widest j b o) (λ r. let w = f.most b (subst (λ y. RunsOn a t d (pos y) b) (sym e) r) in omega arith) k i;
+      widest = λ k b i. one_more (λ j. RunsOn a t d (pos (edge a t d j)) b → b ≤ held) (λ j o. h.widest j b o) (λ r. let w =
+          f.most b (subst (λ y. RunsOn a t d (pos y) b) (sym e) r) in omega arith) k i;
       least = one_more (λ j. RunsOn a t d (pos (edge a t d j)) held → first ≤ edge a t d j)
           h.least
           (λ r.
@@ -80,7 +82,8 @@ pub first_below_cycle : (a : Street) (t : TimingRecord) (d : Dir) (found : Optio
 first_below_cycle a t d None f = tt
 first_below_cycle a t d (Some w) f = f.below
 
-pub band_below_cycle : (a : Street) (t : TimingRecord) (d : Dir) (found : Option Widest) → IsValid a → 2 ≤ t.unit → FoundOfEdges a t d (count a) found → IfSome found (λ (w : Widest). w.band < cycle a t)
+pub band_below_cycle : (a : Street) (t : TimingRecord) (d : Dir) (found : Option Widest) → IsValid a → 2 ≤ t.unit → FoundOfEdges a t d (count a) found
+    → IfSome found (λ (w : Widest). w.band < cycle a t)
 band_below_cycle a t d None h u f = tt
 band_below_cycle a t d (Some w) h u f = band_below a t h u d (pos w.first) w.band f.runs
 

@@ -3,3 +3,4 @@ pub mod Widest
 pub mod Edges
 pub mod Rooms
 pub mod Tried
+pub mod Cut

@@ -1,11 +1,12 @@
 -- The widest band on given offsets, over all finer grids.
-use Rattle.std.specs.Prelude.{◌≡◌, ℕ, ◌*◌, ◌<◌, ◌≤◌, ℤ, pos}
+use Rattle.std.specs.Prelude.{◌≡◌, ℕ, ◌*◌, ◌<◌, ◌≤◌, ℤ, pos, Option, MatchOption}
 use Rattle.progression.specs.Street.{Street}
 use Rattle.progression.specs.TimingRecord.{TimingRecord, cycle}
 use Rattle.progression.specs.declared.parts.Dir.{Dir}
 use Rattle.artery_model.specs.Valid.{IsValid}
 use Rattle.time_space.specs.Finer.{finer}
 use Rattle.band_measure.specs.Pairs.{RunsOn}
+use Rattle.band_measure.specs.declared.pair.Widest.{Widest}
 
 -- No pair runs, however fine the grid.
 abbrev pub NoneRuns : Street → TimingRecord → Dir → Type 0
@@ -17,6 +18,10 @@ pub record IsWidest (a : Street) (t : TimingRecord) (d : Dir) (first band : ℕ)
   pub below : first < cycle a t
   pub widest : (m : ℕ) (x : ℤ) (b : ℕ) → 1 ≤ m → RunsOn a (finer m t) d x b → b ≤ m * band
   pub least : (x : ℕ) → RunsOn a t d (pos x) band → first ≤ x
+
+-- the widest pair of a direction, or that none runs
+abbrev pub IsWidestBand : Street → TimingRecord → Dir → Option Widest → Type 0
+IsWidestBand a t d found = MatchOption found (NoneRuns a t d) (λ (w : Widest). IsWidest a t d w.first w.band)
 
 -- At most one pair is the widest.
 abbrev pub OneWidest : Type 0

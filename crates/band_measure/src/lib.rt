@@ -11,6 +11,8 @@
 //! to the left until it begins at the end of a red, and there whole ticks of this grid begin one that is at least as wide (`Gaps`,
 //! `Coarse`, `AllGrids`).
 //!
+//! `cut` makes two bands as narrow as the artery's ratio rule and its `equal` ask, and no narrower (`specs/Cut.antt`).
+//!
 //! Laws over the definitions: a timing's own band is green all the way exactly where its own pair runs (`law_own_pair`); a pair
 //! runs exactly where m times it runs on the grid that is m times as fine (`law_finer_pairs`); at most one pair is the widest
 //! (`law_one_widest`); and a timing with two pairs is good exactly where the rules up to the changes of pace hold, the bands keep
@@ -18,12 +20,14 @@
 //! stands here too, where `mirror_theory` takes it from.
 #![tactic(auto)]
 
+mod bands;
 mod laws;
 mod measure;
 mod pair;
 mod room;
 mod ways;
 
+pub use bands::{Bands, cut};
 pub use laws::{law_finer_pairs, law_one_widest, law_own_pair, law_pairs_make_good};
 pub use measure::widest;
 pub use pair::{BothPairs, GridScale, Widest, timing_with};

@@ -18,7 +18,8 @@ pub record ReadsTrees {N : Type 0} (cut : N → Option At) (P : BoxLine → N �
       → Q (low_part line.area place ∷ high_part line.area place ∷ boxes) nodes → Q (line.area ∷ boxes) (node ∷ nodes)
 
 one_node : {N : Type 0} (cut : N → Option At) (P : BoxLine → N → Type 0) (Q : List Area → List N → Type 0) → ReadsTrees cut P Q
-    → (line : BoxLine) (lines : List BoxLine) (node : N) (nodes : List N) (c : Option At) → cut node ≡ c → P line node → Q (boxes_of (owed c line lines)) nodes → Q (line.area ∷ boxes_of lines) (node ∷ nodes)
+    → (line : BoxLine) (lines : List BoxLine) (node : N) (nodes : List N) (c : Option At) → cut node ≡ c → P line node → Q (boxes_of (owed c line lines)) nodes
+    → Q (line.area ∷ boxes_of lines) (node ∷ nodes)
 one_node cut P Q r line lines node nodes None e p q = r.leaf line (boxes_of lines) node nodes e p q
 one_node cut P Q r line lines node nodes (Some place) e p q = r.split line (boxes_of lines) place node nodes e p q
 

@@ -17,7 +17,8 @@ use Rattle.branch_and_bound.specs.Matchings.{Matches}
 use Rattle.branch_and_bound.proofs.Matchings.{Matches-back, HasOther, Fills-match, total-match, line_after-match}
 use Rattle.branch_and_bound.specs.Lineages.{Cuts, at_top, at_low, at_high}
 use Rattle.branch_and_bound.specs.Rules.{Rules, IsMet}
-use Rattle.branch_and_bound.specs.Answer.{cut_of, lines_of, line_at, cost_of, units_of, StopCase, RootLeft, RootUnread, BeforeLow, InLow, BeforeHigh, InHigh, Spot, IsSpot, IsNeeded, IsNeededNode, HasSpot, IsNeededStop, IsWorkStop, spends, low_of, high_of}
+use Rattle.branch_and_bound.specs.Answer.{cut_of, lines_of, line_at, cost_of, units_of, StopCase, RootLeft, RootUnread, BeforeLow, InLow, BeforeHigh}
+use Rattle.branch_and_bound.specs.Answer.{InHigh, Spot, IsSpot, IsNeeded, IsNeededNode, HasSpot, IsNeededStop, IsWorkStop, spends, low_of, high_of}
 use Rattle.branch_and_bound.specs.Enough.{IsShort, IsEnough}
 use Rattle.branch_and_bound.specs.declared.incumbent.Incumbent.{Incumbent}
 use Rattle.branch_and_bound.specs.declared.node.TreeNode.{TreeNode}
@@ -65,8 +66,10 @@ total_under r most lines [] h = omega arith
 total_under r most [] (c ∷ cs) h = omega arith
 total_under r most (line ∷ lines) (Some place ∷ cs) h =
     let inside = h.0.inside place refl in
-    under_room (1 + r.steps line) (total own (cost_of r) (low_line place line ∷ high_line place line ∷ lines) cs) (volume line.area) (volume (low_line place line).area) (volume (high_line place line).area) (room lines) most
-    h.0.cost (volume_split line.area place inside) (volume_positive (low_line place line).area) (volume_positive (high_line place line).area) (total_under r most (low_line place line ∷ high_line place line ∷ lines) cs h.1)
+    under_room (1 + r.steps line) (total own (cost_of r) (low_line place line ∷ high_line place line ∷ lines) cs) (volume line.area)
+    (volume (low_line place line).area) (volume (high_line place line).area) (room lines) most
+    h.0.cost (volume_split line.area place inside) (volume_positive (low_line place line).area) (volume_positive (high_line place line).area)
+    (total_under r most (low_line place line ∷ high_line place line ∷ lines) cs h.1)
 total_under r most (line ∷ lines) (None ∷ cs) h =
     one_room (1 + r.steps line) (total own (cost_of r) lines cs) (volume line.area) (room lines) most h.0.cost (volume_positive line.area) (total_under r most lines cs h.1)
 
@@ -78,7 +81,8 @@ AllMet r (line ∷ lines) = IsMet r line × AllMet r lines
 abbrev IsMetNode : {T K W : Type 0} → Rules T K W → Option (Incumbent T) → BoxLine → TreeNode → Type 0
 IsMetNode r best line node = IsNeededNode r best line node × IsMet r line
 
-lineages : {T K W : Type 0} (r : Rules T K W) (best : Option (Incumbent T)) (lines : List BoxLine) (nodes : List TreeNode) → AllMet r lines → Fills cut_of (IsNeededNode r best) lines nodes → Fills cut_of (IsMetNode r best) lines nodes
+lineages : {T K W : Type 0} (r : Rules T K W) (best : Option (Incumbent T)) (lines : List BoxLine) (nodes : List TreeNode) → AllMet r lines
+    → Fills cut_of (IsNeededNode r best) lines nodes → Fills cut_of (IsMetNode r best) lines nodes
 lineages r best lines [] a h = h
 lineages r best [] (node ∷ nodes) a h = h
 lineages r best (line ∷ lines) (Split place point ∷ nodes) a h =
@@ -86,7 +90,8 @@ lineages r best (line ∷ lines) (Split place point ∷ nodes) a h =
 lineages r best (line ∷ lines) (Closed leaf ∷ nodes) a h = ((h.0, a.0), lineages r best lines nodes a.1 h.1)
 lineages r best (line ∷ lines) (Waiting leaf ∷ nodes) a h = ((h.0, a.0), lineages r best lines nodes a.1 h.1)
 
-counted : {T K W : Type 0} (r : Rules T K W) (best : Option (Incumbent T)) (most : ℕ) → IsShort r most → (i : ℕ) (line : BoxLine) (node : TreeNode) (cut : Option At) → cut ≡ cut_of node → IsMetNode r best line node → IsCounted r most line cut
+counted : {T K W : Type 0} (r : Rules T K W) (best : Option (Incumbent T)) (most : ℕ) → IsShort r most → (i : ℕ) (line : BoxLine) (node : TreeNode) (cut : Option At)
+    → cut ≡ cut_of node → IsMetNode r best line node → IsCounted r most line cut
 counted r best most s i line (Split p point) cut e h =
     record { cost = s.cost line h.1; inside = λ place f. let q : p ≡ place = cc in subst (λ x. IsPlace line.area x) q (r.inside line p h.1 h.0.end) }
 counted r best most s i line (Closed leaf) cut e h = record { cost = s.cost line h.1; inside = λ place f. cc }
@@ -148,7 +153,11 @@ undone_under r sound best nodes part spot most h s short =
     subst (λ ns. Fills own (IsCounted r most) lines ns) (sym whole) (Fills-match cut_of own IsCutOf same (IsMetNode r best) (IsCounted r most) (counted r best most short) 0 lines nodes cs m all) in
     let lines_same : line ≡ line_after own lines front = line_after-match cut_of own IsCutOf same 0 spot.index lines nodes cs m in
     let split_is : IsCounted r most (line_after own lines front) (Some spot.place) =
-    subst (λ l. IsCounted r most l (Some spot.place)) lines_same (record { cost = short.cost line here.1; inside = λ place e. let q : spot.place ≡ place = cc in subst (λ p. IsPlace line.area p) q (r.inside line spot.place here.1 s.end) }) in
+    subst (λ l. IsCounted r most l (Some spot.place)) lines_same (record {
+      cost = short.cost line here.1;
+      inside = λ place e. let q : spot.place ≡ place =
+          cc in subst (λ p. IsPlace line.area p) q (r.inside line spot.place here.1 s.end);
+    }) in
     let low_is : IsCounted r most (low_line spot.place (line_after own lines front)) None =
     subst (λ l. IsCounted r most (low_line spot.place l) None) lines_same (record { cost = short.cost (low_line spot.place line) low; inside = λ place e. cc }) in
     let high_is : IsCounted r most (high_line spot.place (line_after own lines front)) None =

@@ -40,7 +40,8 @@ settled_not best i (Waiting area leaf bound place point kept) (tree.Waiting show
   | inr k ↦ cc
 ]
 
-own_bounds : {T K W : Type 0} (r : Rules T K W) (best : Option (Incumbent T)) (top : ℚ) (line : BoxLine) (node : Node K) → IsNode r best top line node → (bound : ℚ) → bound_of node ≡ Some bound → bound ≤ℚ top
+own_bounds : {T K W : Type 0} (r : Rules T K W) (best : Option (Incumbent T)) (top : ℚ) (line : BoxLine) (node : Node K) → IsNode r best top line node
+    → (bound : ℚ) → bound_of node ≡ Some bound → bound ≤ℚ top
 own_bounds r best top line (Split place point) h bound e = cc
 own_bounds r best top line (Closed leaf) h bound e = cc
 own_bounds r best top line (Waiting area leaf b place point kept) h bound e =
@@ -61,7 +62,8 @@ refuted : {T K W : Type 0} (r : Rules T K W) (best : Option (Incumbent T)) (area
 refuted r None area leaf h = h
 refuted r (Some best) area leaf h = inl h
 
-accepted_node : {T K W : Type 0} (r : Rules T K W) (best : Option (Incumbent T)) (top : ℚ) (line : BoxLine) (node : TreeNode) → IsTreeNode r best best top line node × IsNotWaiting node → IsAcceptedNode r (value_of best) line node
+accepted_node : {T K W : Type 0} (r : Rules T K W) (best : Option (Incumbent T)) (top : ℚ) (line : BoxLine) (node : TreeNode) → IsTreeNode r best best top line node
+    × IsNotWaiting node → IsAcceptedNode r (value_of best) line node
 accepted_node r best top line (tree.Split place point) (h, n) = r.inside line place h.lineage h.end
 accepted_node r best top line (tree.Closed leaf) (h, n) = elim (h.shows) [
   | inl k ↦ refuted r best line.area leaf k.refutes
@@ -73,7 +75,8 @@ left_some : {X : Type 0} (P Q : X → Type 0) (o : Option X) → IfSome o P → 
 left_some P Q None h = tt
 left_some P Q (Some x) h = inl h
 
-pub found_shown : {T K W : Type 0} (r : Rules T K W) (nodes : List (Node K)) (shown : List TreeNode) (new : Option (Incumbent T)) (spared : Option ℕ) (best : Option (Incumbent T)) → Matches (IsShown new spared) 0 nodes shown
+pub found_shown : {T K W : Type 0} (r : Rules T K W) (nodes : List (Node K)) (shown : List TreeNode) (new : Option (Incumbent T)) (spared : Option ℕ) (best : Option (Incumbent T))
+    → Matches (IsShown new spared) 0 nodes shown
     → IfSome best (λ b. Finds place_of (λ line node. IsBestLeaf r b.value line (place_of node)) (lines_of r) nodes) → IfSome best (λ b. GivesValue r shown b.value)
 found_shown r nodes shown new spared None m h = tt
 found_shown r nodes shown new spared (Some b) m h =
@@ -82,7 +85,8 @@ found_shown r nodes shown new spared (Some b) m h =
 
 -- ---- the answers
 finished : {T K W : Type 0} (r : Rules T K W) (limit : Option ℕ) (nodes : List (Node K)) (shown : List TreeNode) (best : Option (Incumbent T)) (top : ℚ) (spent : ℕ)
-    → IsWithin spent limit → IsSearchState r nodes best top spent → All (λ node. IsSettled best (bound_of node)) nodes → Matches (IsShown best None) 0 nodes shown → IsFinished r limit shown best (value_of best) spent
+    → IsWithin spent limit → IsSearchState r nodes best top spent → All (λ node. IsSettled best (bound_of node)) nodes → Matches (IsShown best None) 0 nodes shown
+    → IsFinished r limit shown best (value_of best) spent
 finished r limit nodes shown best top spent within h all m =
     let lines = lines_of r in
     let whole : Fills cut_of (λ line other. IsTreeNode r best best top line other × IsNotWaiting other) lines shown =
@@ -95,12 +99,14 @@ finished r limit nodes shown best top spent within h all m =
     record {
       accepted = Fills-map cut_of (λ line other. IsTreeNode r best best top line other × IsNotWaiting other) (IsAcceptedNode r (value_of best)) (accepted_node r best top) lines shown whole;
       needed = record {
-        tree = Fills-map cut_of (λ line other. IsTreeNode r best best top line other × IsNotWaiting other) _ (λ line other k. needed_node r best best top (λ v k. k) h.under line other k.0) lines shown whole;
+        tree = Fills-map cut_of (λ line other. IsTreeNode r best best top line other × IsNotWaiting other) _ (λ line other k. needed_node r best best top (λ v k. k) h.under line other k.0)
+            lines shown whole;
         part_reached = tt;
         found = left_some (λ b. GivesValue r shown b.value) (λ b. IsPartValue r b.value None) best (found_shown r nodes shown best None best m h.found);
       };
       sorted = record {
-        closed = λ index leaf e. closed_over r best best top _ leaf (there cut_of (λ line other. IsTreeNode r best best top line other × IsNotWaiting other) lines shown index (tree.Closed leaf) whole e).0;
+        closed = λ index leaf e. closed_over r best best top _ leaf (there cut_of (λ line other. IsTreeNode r best best top line other × IsNotWaiting other)
+            lines shown index (tree.Closed leaf) whole e).0;
         waits = λ index leaf e. absurd (none index leaf e);
       };
       none_waits = none;
@@ -109,9 +115,17 @@ finished r limit nodes shown best top spent within h all m =
     }
 
 pub best_answer : {T K W : Type 0} (r : Rules T K W) (limit : Option ℕ) (nodes : List (Node K)) (shown : List TreeNode) (best : Incumbent T) (top : ℚ) (spent : ℕ)
-    → IsWithin spent limit → IsSearchState r nodes (Some best) top spent → All (λ node. IsSettled (Some best) (bound_of node)) nodes → Matches (IsShown (Some best) None) 0 nodes shown → IsBestAnswer r limit shown (Some best) best.value spent
-best_answer r limit nodes shown best top spent within h all m = record { timing = best.timing; best_is = refl; good = h.good; finished = finished r limit nodes shown (Some best) top spent within h all m }
+    → IsWithin spent limit → IsSearchState r nodes (Some best) top spent → All (λ node. IsSettled (Some best) (bound_of node)) nodes
+    → Matches (IsShown (Some best) None) 0 nodes shown → IsBestAnswer r limit shown (Some best) best.value spent
+best_answer r limit nodes shown best top spent within h all m = record {
+  timing = best.timing;
+  best_is = refl;
+  good = h.good;
+  finished =
+      finished r limit nodes shown (Some best) top spent within h all m;
+}
 
 pub none_answer : {T K W : Type 0} (r : Rules T K W) (limit : Option ℕ) (nodes : List (Node K)) (shown : List TreeNode) (top bound : ℚ) (spent : ℕ)
-    → IsWithin spent limit → IsSearchState r nodes None top spent → All (λ node. IsSettled {T = T} None (bound_of node)) nodes → Matches (IsShown {T = T} None None) 0 nodes shown → bound ≡ number 0 → IsNoneAnswer r limit shown None bound spent
+    → IsWithin spent limit → IsSearchState r nodes None top spent → All (λ node. IsSettled {T = T} None (bound_of node)) nodes
+    → Matches (IsShown {T = T} None None) 0 nodes shown → bound ≡ number 0 → IsNoneAnswer r limit shown None bound spent
 none_answer r limit nodes shown top bound spent within h all m e = record { best_is = refl; bound_is = e; finished = finished r limit nodes shown None top spent within h all m }

@@ -28,11 +28,13 @@ reached_still r line old new v (inl h) k = subst (λ (b : Option (Incumbent _)).
 reached_still r line None new v (inr h) k = absurd k
 reached_still r line (Some b) new v (inr h) k = subst (λ (b : Option (Incumbent _)). IsReached v b) (sym h.new_is) (≤ℚ_trans v b.value h.best.value k (<ℚ-≤ℚ b.value h.best.value h.more))
 
-pub good_still : {T K W : Type 0} (r : Rules T K W) (line : BoxLine) (old new : Option (Incumbent T)) → IsBetter r line old new → IfSome old (λ b. r.IsGood b.timing b.value) → IfSome new (λ b. r.IsGood b.timing b.value)
+pub good_still : {T K W : Type 0} (r : Rules T K W) (line : BoxLine) (old new : Option (Incumbent T)) → IsBetter r line old new
+    → IfSome old (λ b. r.IsGood b.timing b.value) → IfSome new (λ b. r.IsGood b.timing b.value)
 good_still r line old new (inl h) k = subst (λ b. IfSome b (λ b. r.IsGood b.timing b.value)) (sym h.same) k
 good_still r line old new (inr h) k = subst (λ b. IfSome b (λ b. r.IsGood b.timing b.value)) (sym h.new_is) h.good
 
-pub under_still : {T K W : Type 0} (r : Rules T K W) (line : BoxLine) (old new : Option (Incumbent T)) (top : ℚ) → IsBetter r line old new → (r.ending line ≡ Reads → r.bound line ≤ℚ top) → IsUnder old top → IsUnder new top
+pub under_still : {T K W : Type 0} (r : Rules T K W) (line : BoxLine) (old new : Option (Incumbent T)) (top : ℚ) → IsBetter r line old new
+    → (r.ending line ≡ Reads → r.bound line ≤ℚ top) → IsUnder old top → IsUnder new top
 under_still r line old new top (inl h) f k = subst (λ (b : Option (Incumbent _)). IsUnder b top) (sym h.same) k
 under_still r line old new top (inr h) f k =
     let e : h.best.value ≤ℚ top = subst (λ v. v ≤ℚ top) (sym h.value) (f h.end) in
@@ -89,11 +91,13 @@ found_still : {T K W : Type 0} (r : Rules T K W) (best middle new : Option (Incu
     → IfSome new (λ b. Finds place_of (Gives r b.value) (lines_of r) (front ++ Split place point ∷ low ∷ high ∷ rest))
 found_still r best middle new top place point leaf low high front rest e g h end tree p (inr q) k =
     let here : Finds place_of (Gives r q.best.value) (lines_of r) (front ++ Split place point ∷ low ∷ high ∷ rest) =
-    Finds-new place_of (Gives r q.best.value) (IsNode r best top) place leaf (Split place point) low high (lines_of r) front rest refl g tree (inr (record { whole = h; end = q.end; value_is = sym q.value })) in
+    Finds-new place_of (Gives r q.best.value) (IsNode r best top) place leaf (Split place point) low high (lines_of r) front rest refl g tree
+    (inr (record { whole = h; end = q.end; value_is = sym q.value })) in
     subst (λ (n : Option (Incumbent _)). IfSome n (λ b. Finds place_of (Gives r b.value) (lines_of r) (front ++ Split place point ∷ low ∷ high ∷ rest))) (sym q.new_is) here
 found_still r best middle new top place point leaf low high front rest e g h end tree (inr p) (inl q) k =
     let here : Finds place_of (Gives r p.best.value) (lines_of r) (front ++ Split place point ∷ low ∷ high ∷ rest) =
-    Finds-new place_of (Gives r p.best.value) (IsNode r best top) place leaf (Split place point) low high (lines_of r) front rest refl g tree (inl (record { whole = g; end = p.end; value_is = sym p.value })) in
+    Finds-new place_of (Gives r p.best.value) (IsNode r best top) place leaf (Split place point) low high (lines_of r) front rest refl g tree
+    (inl (record { whole = g; end = p.end; value_is = sym p.value })) in
     subst (λ (n : Option (Incumbent _)). IfSome n (λ b. Finds place_of (Gives r b.value) (lines_of r) (front ++ Split place point ∷ low ∷ high ∷ rest))) (sym (q.same ∙ p.new_is)) here
 found_still r None middle new top place point leaf low high front rest e g h end tree (inl p) (inl q) k =
     subst (λ (n : Option (Incumbent _)). IfSome n (λ b. Finds place_of (Gives r b.value) (lines_of r) (front ++ Split place point ∷ low ∷ high ∷ rest))) (sym (q.same ∙ p.same)) tt
@@ -126,21 +130,27 @@ grown r front rest area leaf bound place point kept index old new top low high h
     let old_nodes : Fills place_of (IsNode r new.incumbent bound) lines (front ++ node ∷ rest) =
     Fills-map place_of (λ l n. IsNode r old.incumbent top l n × IsOverBound (Some (record { index = index; bound = bound })) (bound_of n)) (IsNode r new.incumbent bound)
     (λ l n k. node_still r old.incumbent new.incumbent top bound g bound_top l n k.0 (λ b e. over_bound (record { index = index; bound = bound }) (bound_of n) b e k.1))
-    lines (front ++ node ∷ rest) (Fills-each place_of (IsNode r old.incumbent top) (λ n. IsOverBound (Some (record { index = index; bound = bound })) (bound_of n)) lines (front ++ node ∷ rest) over h.tree) in
+    lines (front ++ node ∷ rest) (Fills-each place_of (IsNode r old.incumbent top) (λ n. IsOverBound (Some (record { index = index; bound = bound })) (bound_of n))
+    lines (front ++ node ∷ rest) over h.tree) in
     let split_is : IsSplit r bound line place point = record { lineage = w.lineage; end = w.end; vertex_is = w.vertex_is; over = subst (λ b. bound ≤ℚ b) w.bounds.bound_is (≤ℚ_refl bound) } in
-    let low_is : IsNode r new.incumbent bound (low_line place line) low = low_now r both.middle.incumbent new.incumbent bound (low_line place line) low f (both.low_is.is bound (at_low line place w.lineage w.end) low_under) in
+    let low_is : IsNode r new.incumbent bound (low_line place line) low = low_now r both.middle.incumbent new.incumbent bound (low_line place line) low
+    f (both.low_is.is bound (at_low line place w.lineage w.end) low_under) in
     let high_is : IsNode r new.incumbent bound (high_line place line) high = both.high_is.is bound (at_high line place w.lineage w.end) high_under in
     let units = total-split place_of (cost_of r) (IsNode r old.incumbent top) place node (Split place point) low high lines front rest refl refl both.low_is.whole both.high_is.whole h.tree in
     record {
-      tree = Fills-split place_of (IsNode r new.incumbent bound) place node (Split place point) low high lines front rest refl refl both.low_is.whole both.high_is.whole split_is low_is high_is old_nodes;
-      good = good_still r (high_line place line) both.middle.incumbent new.incumbent both.high_is.better (good_still r (low_line place line) old.incumbent both.middle.incumbent both.low_is.better h.good);
+      tree = Fills-split place_of (IsNode r new.incumbent bound) place node (Split place point) low high lines front rest refl refl both.low_is.whole
+          both.high_is.whole split_is low_is high_is old_nodes;
+      good = good_still r (high_line place line) both.middle.incumbent new.incumbent both.high_is.better
+          (good_still r (low_line place line) old.incumbent both.middle.incumbent both.low_is.better h.good);
       under = under_still r (high_line place line) both.middle.incumbent new.incumbent bound both.high_is.better (λ e. high_under (optimal_reads r (high_line place line) e))
           (under_still r (low_line place line) old.incumbent both.middle.incumbent bound both.low_is.better (λ e. low_under (optimal_reads r (low_line place line) e)) best_under);
-      found = found_still r old.incumbent both.middle.incumbent new.incumbent top place point node low high front rest refl both.low_is.whole both.high_is.whole w.end h.tree both.low_is.better both.high_is.better h.found;
+      found = found_still r old.incumbent both.middle.incumbent new.incumbent top place point node low high front rest refl both.low_is.whole
+          both.high_is.whole w.end h.tree both.low_is.better both.high_is.better h.found;
       units = omega (arith, h.units, both.low_cost.spent, both.high_cost.spent, units);
     }
   where
-    low_now : {T K W : Type 0} (r : Rules T K W) (old new : Option (Incumbent T)) (top : ℚ) (line : BoxLine) (node : Node K) → ((v : ℚ) → IsReached v old → IsReached v new) → IsNode r old top line node → IsNode r new top line node
+    low_now : {T K W : Type 0} (r : Rules T K W) (old new : Option (Incumbent T)) (top : ℚ) (line : BoxLine) (node : Node K) → ((v : ℚ) → IsReached v old → IsReached v new)
+        → IsNode r old top line node → IsNode r new top line node
     low_now r old new top line (Split place point) f h = h
     low_now r old new top line (Closed leaf) f h = closed_still r old new f line leaf h
     low_now r old new top line (Waiting area leaf bound place point kept) f h = h

@@ -10,7 +10,9 @@ use Rattle.branch_and_bound.specs.Rules.{Rules, IsMet}
 use Rattle.work_meter.specs.Work.{capped, IsWithin}
 use Rattle.branch_and_bound.specs.Incumbents.{IsBeaten}
 use Rattle.branch_and_bound.specs.Greatest.{IsGreatest, bound_of}
-use Rattle.branch_and_bound.specs.Answer.{cut_of, lines_of, line_at, cost_of, units_of, StopCase, BeforeLow, InLow, BeforeHigh, InHigh, HasSpot, HasLeft, IsReadPart, finished_part, IsNeededStop, IsSorted, undone_of, spends, IsStop, IsStoppedAnswer, Spot, low_of, high_of}
+use Rattle.branch_and_bound.specs.Answer.{cut_of, lines_of, line_at, cost_of, units_of, StopCase, BeforeLow, InLow, BeforeHigh, InHigh, HasSpot}
+use Rattle.branch_and_bound.specs.Answer.{HasLeft, IsReadPart, finished_part, IsNeededStop, IsSorted, undone_of, spends, IsStop, IsStoppedAnswer}
+use Rattle.branch_and_bound.specs.Answer.{Spot, low_of, high_of}
 use Rattle.branch_and_bound.specs.State.{place_of, line_there, IsNode, IsShown, IsUnopened, Stops, IsLowHalted, IsHighHalted, IsSearchState, IsUndone}
 use Rattle.work_meter.specs.declared.meter.Meter.{Meter}
 use Rattle.branch_and_bound.specs.declared.incumbent.Incumbent.{Incumbent}
@@ -46,8 +48,10 @@ unopened_limit : (before after : Meter) (limit : Option ℕ) → IsUnopened befo
 unopened_limit before after limit s e = sym e ∙ ap (λ (m : Meter). m.limit) s.same ∙ s.spent ∙ ap (λ (m : Meter). Some m.spent) (sym s.same)
 
 -- the answer that stopped at a place
-answer_at : {T K W : Type 0} (r : Rules T K W) (limit : Option ℕ) (shown : List TreeNode) (bound : ℚ) (new : Option (Incumbent T)) (spent : ℕ) (spot : Spot) (part : Option BoxLine) (stop : Stop W) (case : StopCase)
-    → IsHalt r shown new bound spot part → HasSpot r shown case → HasLeft r shown case → IsReadPart r (finished_part r shown case) → IsNeededStop r shown new bound case → IsSorted r shown new (undone_of case)
+answer_at : {T K W : Type 0} (r : Rules T K W) (limit : Option ℕ) (shown : List TreeNode) (bound : ℚ) (new : Option (Incumbent T)) (spent : ℕ) (spot : Spot)
+    (part : Option BoxLine) (stop : Stop W) (case : StopCase)
+    → IsHalt r shown new bound spot part → HasSpot r shown case → HasLeft r shown case → IsReadPart r (finished_part r shown case) → IsNeededStop r shown new bound case
+    → IsSorted r shown new (undone_of case)
     → spent ≡ capped (spends r shown case) → IsWithin spent limit → IsStop r shown case limit spent stop → IsStoppedAnswer r limit shown new bound spent stop
 answer_at r limit shown bound new spent spot part stop case k spot_is left read needed sorted units within cause = record {
   case = case;
@@ -105,12 +109,14 @@ by_part : {T K W : Type 0} (r : Rules T K W) (limit : Option ℕ) (nodes : List 
     → IsLowHalted r (line_at r shown g.index) place old new stop ⊎ IsHighHalted r (line_at r shown g.index) place old new stop → new.meter.limit ≡ limit
     → IsStoppedAnswer r limit shown new.incumbent g.bound new.meter.spent stop
 by_part r limit nodes shown g old new top stop place h greatest beaten m w units end (inl halts) e =
-    let k = stopped r nodes shown g greatest.waits.node old.incumbent new.incumbent top old.meter.spent None place h m greatest.waits.at greatest.waits.waits end (over_all nodes (Some g) greatest) beaten halts.same tt in
+    let k = stopped r nodes shown g greatest.waits.node old.incumbent new.incumbent top old.meter.spent None place h m greatest.waits.at greatest.waits.waits
+    end (over_all nodes (Some g) greatest) beaten halts.same tt in
     low_cases r limit shown g.bound new.incumbent old.meter new.meter (record { index = g.index; place = place }) stop units k halts.stops e
 by_part r limit nodes shown g old new top stop place h greatest beaten m w units end (inr halts) e =
     let line = line_at r shown g.index in
     let under : IsPartUnder r (Some (low_line place line)) g.bound = λ optimal. subst (λ b. r.bound (low_line place line) ≤ℚ b) w.bound_is (r.low_falls line place w.lineage end optimal) in
-    let k = stopped r nodes shown g greatest.waits.node old.incumbent new.incumbent top old.meter.spent (Some (low_line place line)) place h m greatest.waits.at greatest.waits.waits end (over_all nodes (Some g) greatest) beaten halts.better under in
+    let k = stopped r nodes shown g greatest.waits.node old.incumbent new.incumbent top old.meter.spent (Some (low_line place line)) place h m
+    greatest.waits.at greatest.waits.waits end (over_all nodes (Some g) greatest) beaten halts.better under in
     high_cases r limit shown g.bound new.incumbent old.meter halts.between new.meter (record { index = g.index; place = place }) stop units k halts.low_cost.spent halts.stops halts.read e
 
 pub undone_answer : {T K W : Type 0} (r : Rules T K W) (limit : Option ℕ) (nodes new_nodes : List (Node K)) (shown : List TreeNode) (g : Greatest) (old new : Progress T) (top : ℚ) (stop : Stop W)

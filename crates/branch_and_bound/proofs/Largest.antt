@@ -33,7 +33,8 @@ next_greatest nodes i node old new h e p (inl q) =
     subst (λ g. IsGreatest nodes (i + 1) g) (sym q.same) there
 next_greatest nodes i node old new h e p (inr q) =
     let most : Option Greatest = Some (record { index = i; bound = q.bound }) in
-    let front : All (λ n. IsOverBound most (bound_of n)) (take i nodes) = All-weaker (λ n. IsOverBound old (bound_of n)) (λ n. IsOverBound most (bound_of n)) (λ n k. grow_over old i q.bound (bound_of n) q.over k) (take i nodes) p.over in
+    let front : All (λ n. IsOverBound most (bound_of n)) (take i nodes) = All-weaker (λ n. IsOverBound old (bound_of n)) (λ n. IsOverBound most (bound_of n))
+    (λ n k. grow_over old i q.bound (bound_of n) q.over k) (take i nodes) p.over in
     let here : IsOverBound most (bound_of (get_or nodes i node)) = subst (λ n. IsOverBound most (bound_of n)) e (own_over i q.bound (bound_of node) q.is) in
     let there : IsGreatest nodes (i + 1) most = record {
       over = All-more (λ n. IsOverBound most (bound_of n)) nodes i node h front here;

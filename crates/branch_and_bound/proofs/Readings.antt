@@ -16,7 +16,8 @@ use Rattle.branch_and_bound.specs.declared.node.TreeNode.TheVariants.{Split, Clo
 -- Q of boxes that want a tree and nodes is what a checker says: of a split where its place lies in the box, and of a leaf where it is a proof
 pub record ReadsAnswers {T K W : Type 0} (r : Rules T K W) (claim : Option ℚ) (Q : List Area → List TreeNode → Type 0) : Type 0 where
   pub none : Q [] []
-  pub split : (box : Area) (boxes : List Area) (place : At) (point : Point) (nodes : List TreeNode) → IsPlace box place → Q (low_part box place ∷ high_part box place ∷ boxes) nodes → Q (box ∷ boxes) (Split place point ∷ nodes)
+  pub split : (box : Area) (boxes : List Area) (place : At) (point : Point) (nodes : List TreeNode) → IsPlace box place → Q (low_part box place ∷ high_part box place ∷ boxes) nodes
+      → Q (box ∷ boxes) (Split place point ∷ nodes)
   pub closed : (box : Area) (boxes : List Area) (leaf : Leaf) (nodes : List TreeNode) → IsProof r claim box leaf → Q boxes nodes → Q (box ∷ boxes) (Closed leaf ∷ nodes)
   pub waiting : (box : Area) (boxes : List Area) (leaf : Leaf) (nodes : List TreeNode) → IsProof r claim box leaf → Q boxes nodes → Q (box ∷ boxes) (Waiting leaf ∷ nodes)
 

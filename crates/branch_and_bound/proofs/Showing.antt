@@ -23,7 +23,8 @@ length_more [] x = omega arith
 length_more (y ∷ xs) x = omega (arith, length_more xs x)
 
 -- one more
-pub one_more : {T K : Type 0} (best : Option (Incumbent T)) (spared : Option ℕ) (nodes rest more : List (Node K)) (count : ℕ) (node : Node K) (shown : List TreeNode) (other : TreeNode) (new : List TreeNode)
+pub one_more : {T K : Type 0} (best : Option (Incumbent T)) (spared : Option ℕ) (nodes rest more : List (Node K)) (count : ℕ) (node : Node K)
+    (shown : List TreeNode) (other : TreeNode) (new : List TreeNode)
     → AreShown best spared nodes rest count shown → rest ≡ node ∷ more → IsShown best spared count node other → new ≡ shown ++ other ∷ []
     → AreShown best spared nodes more (count + 1) new
 one_more best spared nodes rest more count node shown other new h e s n =

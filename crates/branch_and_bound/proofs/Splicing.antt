@@ -67,7 +67,8 @@ not_other nodes index bound node h e f =
     let same : h.node ≡ node = cc in
     by_node node (subst (λ n. bound_of n ≡ Some bound) same h.waits) f
   where
-    by_node : {K : Type 0} {bound : ℚ} (node : Node K) → bound_of node ≡ Some bound → ((area : Area) (leaf : Leaf) (b : ℚ) (place : At) (point : Point) (kept : K) → node ≡ Waiting area leaf b place point kept → ⊥) → ⊥
+    by_node : {K : Type 0} {bound : ℚ} (node : Node K) → bound_of node ≡ Some bound → ((area : Area) (leaf : Leaf) (b : ℚ) (place : At) (point : Point) (kept : K)
+        → node ≡ Waiting area leaf b place point kept → ⊥) → ⊥
     by_node (Split place point) e f = cc
     by_node (Closed leaf) e f = cc
     by_node (Waiting area leaf b place point kept) e f = f area leaf b place point kept refl
@@ -113,11 +114,14 @@ is_grown r nodes index area leaf bound place point kept old new top low high h e
     let whole = cut_here nodes index node e in
     let line = line_there r nodes index in
     let w : IsWaiting r top line area leaf bound place point kept = node_at r nodes old.incumbent top index node h.tree e in
-    let again : IsSearchState r (take index nodes ++ node ∷ drop (index + 1) nodes) old.incumbent top old.meter.spent = subst (λ ns. IsSearchState r ns old.incumbent top old.meter.spent) (sym whole) h in
+    let again : IsSearchState r (take index nodes ++ node ∷ drop (index + 1) nodes) old.incumbent top old.meter.spent =
+    subst (λ ns. IsSearchState r ns old.incumbent top old.meter.spent) (sym whole) h in
     let over_again : All (λ n. IsOverBound (Some (record { index = index; bound = bound })) (bound_of n)) (take index nodes ++ node ∷ drop (index + 1) nodes) =
     subst (λ ns. All (λ n. IsOverBound (Some (record { index = index; bound = bound })) (bound_of n)) ns) (sym whole) over in
-    let low_weight = weight_of r both.middle.incumbent bound (low_line place line) low (both.low_is.is bound (at_low line place w.lineage w.end) (λ o. subst (λ b. r.bound (low_line place line) ≤ℚ b) (sym w.bounds.bound_is) (r.low_falls line place w.lineage w.end o))) in
-    let high_weight = weight_of r new.incumbent bound (high_line place line) high (both.high_is.is bound (at_high line place w.lineage w.end) (λ o. subst (λ b. r.bound (high_line place line) ≤ℚ b) (sym w.bounds.bound_is) (r.high_falls line place w.lineage w.end o))) in
+    let low_weight = weight_of r both.middle.incumbent bound (low_line place line) low (both.low_is.is bound (at_low line place w.lineage w.end)
+    (λ o. subst (λ b. r.bound (low_line place line) ≤ℚ b) (sym w.bounds.bound_is) (r.low_falls line place w.lineage w.end o))) in
+    let high_weight = weight_of r new.incumbent bound (high_line place line) high (both.high_is.is bound (at_high line place w.lineage w.end)
+    (λ o. subst (λ b. r.bound (high_line place line) ≤ℚ b) (sym w.bounds.bound_is) (r.high_falls line place w.lineage w.end o))) in
     let parts = lighter_by _ _ _ (volume_split line.area place (r.inside line place w.lineage w.end)) (volume_positive (low_line place line).area) (volume_positive (high_line place line).area) in
     record {
       top = bound;

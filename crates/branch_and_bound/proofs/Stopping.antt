@@ -19,7 +19,8 @@ use Rattle.branch_and_bound.specs.Lineages.{Cuts, IsOptimal}
 use Rattle.branch_and_bound.specs.Rules.{Rules}
 use Rattle.branch_and_bound.specs.Incumbents.{IsReached, IsUnder, IsBeaten}
 use Rattle.branch_and_bound.specs.Greatest.{IsOverBound, bound_of}
-use Rattle.branch_and_bound.specs.Answer.{cut_of, lines_of, line_at, IsAcceptedNode, IsAccepted, IsSorted, Spot, IsSpot, IsNodeUnder, IsNeededNode, IsNeeded, IsBestLeaf, GivesValue, IsReachedPart, IsPartValue, IsPartAlone, IsOpenNode, IsOpenBound}
+use Rattle.branch_and_bound.specs.Answer.{cut_of, lines_of, line_at, IsAcceptedNode, IsAccepted, IsSorted, Spot, IsSpot, IsNodeUnder, IsNeededNode}
+use Rattle.branch_and_bound.specs.Answer.{IsNeeded, IsBestLeaf, GivesValue, IsReachedPart, IsPartValue, IsPartAlone, IsOpenNode, IsOpenBound}
 use Rattle.branch_and_bound.specs.State.{place_of, line_there, IsNode, IsWaiting, IsShown, IsBetter, IsSearchState}
 use Rattle.branch_and_bound.specs.declared.incumbent.Incumbent.{Incumbent}
 use Rattle.branch_and_bound.specs.declared.node.Node.{Node}
@@ -46,18 +47,21 @@ part_still : {T K W : Type 0} (r : Rules T K W) (part : Option BoxLine) (old new
 part_still r None old new v h k = subst (λ (b : Option (Incumbent _)). IsReached v b) (sym h) k
 part_still r (Some line) old new v h k = reached_still r line old new v h k
 
-part_good : {T K W : Type 0} (r : Rules T K W) (part : Option BoxLine) (old new : Option (Incumbent T)) → IsBetterPart r part old new → IfSome old (λ b. r.IsGood b.timing b.value) → IfSome new (λ b. r.IsGood b.timing b.value)
+part_good : {T K W : Type 0} (r : Rules T K W) (part : Option BoxLine) (old new : Option (Incumbent T)) → IsBetterPart r part old new
+    → IfSome old (λ b. r.IsGood b.timing b.value) → IfSome new (λ b. r.IsGood b.timing b.value)
 part_good r None old new h k = subst (λ b. IfSome b (λ b. r.IsGood b.timing b.value)) (sym h) k
 part_good r (Some line) old new h k = good_still r line old new h k
 
-part_under : {T K W : Type 0} (r : Rules T K W) (part : Option BoxLine) (old new : Option (Incumbent T)) (bound : ℚ) → IsBetterPart r part old new → IsPartUnder r part bound → IsUnder old bound → IsUnder new bound
+part_under : {T K W : Type 0} (r : Rules T K W) (part : Option BoxLine) (old new : Option (Incumbent T)) (bound : ℚ) → IsBetterPart r part old new
+    → IsPartUnder r part bound → IsUnder old bound → IsUnder new bound
 part_under r None old new bound h p k = subst (λ (b : Option (Incumbent _)). IsUnder b bound) (sym h) k
 part_under r (Some line) old new bound h p k = under_still r line old new bound h (λ e. p (optimal_reads r line e)) k
 
 part_reached : {T K W : Type 0} (r : Rules T K W) (part : Option BoxLine) (old new : Option (Incumbent T)) → IsBetterPart r part old new → IsReachedPart r new part
 part_reached r None old new h = tt
 part_reached r (Some line) old new (inl h) = λ e. subst (λ (b : Option (Incumbent _)). IsReached (r.bound line) b) (sym h.same) (h.reached e)
-part_reached r (Some line) old new (inr h) = λ e. subst (λ (b : Option (Incumbent _)). IsReached (r.bound line) b) (sym h.new_is) (subst (λ v. r.bound line ≤ℚ v) (sym h.value) (≤ℚ_refl (r.bound line)))
+part_reached r (Some line) old new (inr h) = λ e. subst (λ (b : Option (Incumbent _)). IsReached (r.bound line) b) (sym h.new_is)
+    (subst (λ v. r.bound line ≤ℚ v) (sym h.value) (≤ℚ_refl (r.bound line)))
 
 left_some : {X : Type 0} (P Q : X → Type 0) (o : Option X) → IfSome o P → IfSome o (λ x. P x ⊎ Q x)
 left_some P Q None h = tt
@@ -72,7 +76,8 @@ part_found r nodes (Some line) old new (inr h) k =
     let here : GivesValue r nodes h.best.value ⊎ IsPartValue r h.best.value (Some line) = inr (h.end, sym h.value) in
     subst (λ o. IfSome o (λ b. GivesValue r nodes b.value ⊎ IsPartValue r b.value (Some line))) (sym h.new_is) here
 part_found r nodes (Some line) old new (inl h) k =
-    subst (λ o. IfSome o (λ b. GivesValue r nodes b.value ⊎ IsPartValue r b.value (Some line))) (sym h.same) (left_some (λ b. GivesValue r nodes b.value) (λ b. IsPartValue r b.value (Some line)) old k)
+    subst (λ o. IfSome o (λ b. GivesValue r nodes b.value ⊎ IsPartValue r b.value (Some line))) (sym h.same)
+    (left_some (λ b. GivesValue r nodes b.value) (λ b. IsPartValue r b.value (Some line)) old k)
 
 less_or_same : (x y : ℚ) → x ≤ℚ y → (x <ℚ y) ⊎ (x ≡ y)
 less_or_same x y h = by_order x y (cmp_ℚ x y) h (ranked_ℚ x y (cmp_ℚ x y) refl)
@@ -103,7 +108,8 @@ part_more r nodes (Some line) old new bound (inr h) p beaten none =
     ] in
     subst (λ o. IsMore r nodes bound (Some line) o) (sym h.new_is) here
 
-both_good : {T : Type 0} (P : T → ℚ → Type 0) (best : Option (Incumbent T)) (bound : ℚ) → IfSome best (λ b. P b.timing b.value) → IsUnder best bound → IfSome best (λ b. P b.timing b.value × (b.value ≤ℚ bound))
+both_good : {T : Type 0} (P : T → ℚ → Type 0) (best : Option (Incumbent T)) (bound : ℚ) → IfSome best (λ b. P b.timing b.value) → IsUnder best bound
+    → IfSome best (λ b. P b.timing b.value × (b.value ≤ℚ bound))
 both_good P None bound h k = tt
 both_good P (Some b) bound h k = (h, k)
 
@@ -178,7 +184,8 @@ pub record IsHalt {T K W : Type 0} (r : Rules T K W) (nodes : List TreeNode) (ne
   pub sorted : IsSorted r nodes new (Some spot.index)
 
 -- the nodes as they are answered, with the best timing that the finished part may have changed
-pub stopped : {T K W : Type 0} (r : Rules T K W) (nodes : List (Node K)) (shown : List TreeNode) (g : Greatest) (node : Node K) (old new : Option (Incumbent T)) (top : ℚ) (spent : ℕ) (part : Option BoxLine) (place : At)
+pub stopped : {T K W : Type 0} (r : Rules T K W) (nodes : List (Node K)) (shown : List TreeNode) (g : Greatest) (node : Node K) (old new : Option (Incumbent T))
+    (top : ℚ) (spent : ℕ) (part : Option BoxLine) (place : At)
     → IsSearchState r nodes old top spent
     → Matches (IsShown new (Some g.index)) 0 nodes shown
     → slice_get nodes g.index ≡ Some node → bound_of node ≡ Some g.bound
@@ -208,12 +215,15 @@ stopped r nodes shown g (Waiting area leaf b p point kept) old new top spent par
     let again : WaitsAgain shown g.index = waits_again new g.index shown area leaf b p point kept back.node back.at back.is in
     let waiting : StillWaits r g.bound line again.leaf = there cut_of (IsTreeNode r old new g.bound) lines shown g.index (tree.Waiting again.leaf) nodes_are again.at in
     let stays : r.Refutes line.area again.leaf → ⊥ = r.not_refuted line again.leaf waiting.lineage (subst IsOptimal (sym end) tt) waiting.leaf_is in
-    let leaves : Fills cut_of (IsNodeUnder r g.bound) lines shown = Fills-map cut_of (IsTreeNode r old new g.bound) (IsNodeUnder r g.bound) (leaf_under r old new g.bound old_under) lines shown nodes_are in
+    let leaves : Fills cut_of (IsNodeUnder r g.bound) lines shown = Fills-map cut_of (IsTreeNode r old new g.bound) (IsNodeUnder r g.bound)
+    (leaf_under r old new g.bound old_under) lines shown nodes_are in
     let whole = cut_here shown g.index (tree.Waiting again.leaf) again.at in
-    let parted : Fills cut_of (IsTreeNode r old new g.bound) lines (take g.index shown ++ tree.Waiting again.leaf ∷ drop (g.index + 1) shown) = subst (λ ns. Fills cut_of (IsTreeNode r old new g.bound) lines ns) (sym whole) nodes_are in
+    let parted : Fills cut_of (IsTreeNode r old new g.bound) lines (take g.index shown ++ tree.Waiting again.leaf ∷ drop (g.index + 1) shown) =
+    subst (λ ns. Fills cut_of (IsTreeNode r old new g.bound) lines ns) (sym whole) nodes_are in
     let found : Finds cut_of (IsOpenNode r g.bound) lines shown =
     subst (λ ns. Finds cut_of (IsOpenNode r g.bound) lines ns) whole
-    (Finds-at cut_of (IsOpenNode r g.bound) (IsTreeNode r old new g.bound) lines (take g.index shown) (tree.Waiting again.leaf) (drop (g.index + 1) shown) parted (record { not_refuted = stays; bound_is = bound_line })) in
+    (Finds-at cut_of (IsOpenNode r g.bound) (IsTreeNode r old new g.bound) lines (take g.index shown) (tree.Waiting again.leaf) (drop (g.index + 1) shown)
+    parted (record { not_refuted = stays; bound_is = bound_line })) in
     let none : GivesValue r shown g.bound → ⊥ =
     Finds-none cut_of (IsTreeNode r old new g.bound) (λ l n. IsBestLeaf r g.bound l (cut_of n)) (none_gives r old new g.bound g.bound beaten) lines shown nodes_are in
     record {

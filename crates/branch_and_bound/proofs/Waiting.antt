@@ -21,5 +21,6 @@ pub over_all : {K : Type 0} (nodes : List (Node K)) (g : Option Greatest) → Is
 over_all nodes g h = subst (λ ns. All (λ n. IsOverBound g (bound_of n)) ns) (take_all (length nodes) nodes (omega arith)) h.over
 
 -- the best value is at least the greatest bound
-pub all_settled : {T K : Type 0} (nodes : List (Node K)) (best : Option (Incumbent T)) (g : Greatest) → IsGreatest nodes (length nodes) (Some g) → IsReached g.bound best → All (λ node. IsSettled best (bound_of node)) nodes
+pub all_settled : {T K : Type 0} (nodes : List (Node K)) (best : Option (Incumbent T)) (g : Greatest) → IsGreatest nodes (length nodes) (Some g)
+    → IsReached g.bound best → All (λ node. IsSettled best (bound_of node)) nodes
 all_settled nodes best g h r = All-weaker (λ n. IsOverBound (Some g) (bound_of n)) (λ n. IsSettled best (bound_of n)) (λ n k. over_reached g best (bound_of n) r k) nodes (over_all nodes (Some g) h)

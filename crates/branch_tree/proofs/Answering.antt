@@ -22,7 +22,9 @@ use Rattle.branch_and_bound.specs.declared.found.Stop.TheVariants.{Work, Wide}
 use Rattle.branch_and_bound.specs.declared.found.Found as engine
 use Rattle.branch_and_bound.specs.declared.found.Verdict.{Verdict}
 use Rattle.branch_and_bound.specs.declared.found.Verdict.TheVariants.{Best, NoTiming, Stopped}
-use Rattle.branch_and_bound.specs.Answer.{IsAnswer, IsFound, timing_of, cut_of, lines_of, line_at, IsAcceptedNode, IsNeededNode, IsStart, IsNeededStop, StopCase, RootLeft, RootUnread, BeforeLow, InLow, BeforeHigh, InHigh, Spot, IsSpot, HasSpot, IsSite, IsWideStop}
+use Rattle.branch_and_bound.specs.Answer.{IsAnswer, IsFound, timing_of, cut_of, lines_of, line_at, IsAcceptedNode, IsNeededNode, IsStart}
+use Rattle.branch_and_bound.specs.Answer.{IsNeededStop, StopCase, RootLeft, RootUnread, BeforeLow, InLow, BeforeHigh, InHigh, Spot, IsSpot, HasSpot}
+use Rattle.branch_and_bound.specs.Answer.{IsSite, IsWideStop}
 use Rattle.branch_tree.specs.Trees.{node_of}
 use Rattle.branch_tree.specs.Told.{valued, TellsOf, IsTimed}
 use Rattle.branch_tree.specs.SiteNames.{EndsAt}
@@ -46,7 +48,8 @@ module _ {T K W : Type 0} (r : Rules T K W) (value : T → ℚ) (own : (t : T) (
     best_good (Some b) (Stopped stop) h = h.good.0
 
     -- so the value need not be told
-    pub answer_valued : (best : Option (Incumbent T)) (verdict : Verdict W) → IsAnswer r limit nodes best bound spent verdict → IsAnswer r limit nodes (valued value (timing_of best)) bound spent verdict
+    pub answer_valued : (best : Option (Incumbent T)) (verdict : Verdict W) → IsAnswer r limit nodes best bound spent verdict
+        → IsAnswer r limit nodes (valued value (timing_of best)) bound spent verdict
     answer_valued best verdict h = subst (λ b. IsAnswer r limit nodes b bound spent verdict) (known best (best_good best verdict h)) h
 
     pub timing_good : (timing : Option T) (verdict : Verdict W) → IsAnswer r limit nodes (valued value timing) bound spent verdict → IfSome timing (λ t. r.IsGood t (value t))
@@ -88,7 +91,8 @@ module _ {T K W : Type 0} (r : Rules T K W) (table : Table) (ends : (line : BoxL
     node_kept line (Closed leaf) h = ends line leaf h.1.leaf_is
     node_kept line (Waiting leaf) h = ends line leaf h.1.leaf_is
 
-    nodes_kept : (lines : List BoxLine) (nodes : List TreeNode) → Fills cut_of (λ line node. IsAcceptedNode r claim line node × IsNeededNode r best line node) lines nodes → All (λ node. IsNodeIn table (node_of node)) nodes
+    nodes_kept : (lines : List BoxLine) (nodes : List TreeNode) → Fills cut_of (λ line node. IsAcceptedNode r claim line node × IsNeededNode r best line node) lines nodes
+        → All (λ node. IsNodeIn table (node_of node)) nodes
     nodes_kept lines [] h = All-nil (λ node. IsNodeIn table (node_of node))
     nodes_kept [] (node ∷ nodes) h = absurd h
     nodes_kept (line ∷ lines) (node ∷ nodes) h = All-cons (λ n. IsNodeIn table (node_of n)) node nodes (node_kept line node h.0) (nodes_kept (owed (cut_of node) line lines) nodes h.1)
@@ -126,7 +130,8 @@ module _ {T K W : Type 0} (r : Rules T K W) (sound : r.IsSound) (Named : Site W 
   AreMet [] = Unit {0}
   AreMet (line ∷ lines) = IsMet r line × AreMet lines
 
-  owed_met : (best : Option (Incumbent T)) (line : BoxLine) (lines : List BoxLine) (node : TreeNode) → IsMet r line → AreMet lines → IsNeededNode r best line node → AreMet (owed (cut_of node) line lines)
+  owed_met : (best : Option (Incumbent T)) (line : BoxLine) (lines : List BoxLine) (node : TreeNode) → IsMet r line → AreMet lines → IsNeededNode r best line node
+      → AreMet (owed (cut_of node) line lines)
   owed_met best line lines (Split place point) l m h = (at_low line place l h.end, (at_high line place l h.end, m))
   owed_met best line lines (Closed leaf) l m h = m
   owed_met best line lines (Waiting leaf) l m h = m
@@ -149,7 +154,8 @@ module _ {T K W : Type 0} (r : Rules T K W) (sound : r.IsSound) (Named : Site W 
     high_met : IsMet r (high_line spot.place (line_at r nodes spot.index))
     high_met = at_high (line_at r nodes spot.index) spot.place spot_met s.end
 
-  site_by : (nodes : List TreeNode) (best : Option (Incumbent T)) (bound : ℚ) (site : Site W) (case : StopCase) → HasSpot r nodes case → IsNeededStop r nodes best bound case → IsWideStop r nodes case site → Named site
+  site_by : (nodes : List TreeNode) (best : Option (Incumbent T)) (bound : ℚ) (site : Site W) (case : StopCase) → HasSpot r nodes case
+      → IsNeededStop r nodes best bound case → IsWideStop r nodes case site → Named site
   site_by nodes best bound site (RootLeft k) s h w = site_on (top_line r.root) k site (at_top sound) w
   site_by nodes best bound site RootUnread s h w = site_on (top_line r.root) _ site (at_top sound) w
   site_by nodes best bound site (BeforeLow spot) s h w = absurd w
@@ -157,7 +163,8 @@ module _ {T K W : Type 0} (r : Rules T K W) (sound : r.IsSound) (Named : Site W 
   site_by nodes best bound site (BeforeHigh spot) s h w = absurd w
   site_by nodes best bound site (InHigh spot k) s h w = site_on _ k site (high_met best nodes spot s h.0.tree) w
 
-  pub sited_by : (limit : Option ℕ) (nodes : List TreeNode) (bound : ℚ) (spent : ℕ) (best : Option (Incumbent T)) (verdict : Verdict W) → IsAnswer r limit nodes best bound spent verdict → EndsAt Named verdict
+  pub sited_by : (limit : Option ℕ) (nodes : List TreeNode) (bound : ℚ) (spent : ℕ) (best : Option (Incumbent T)) (verdict : Verdict W)
+      → IsAnswer r limit nodes best bound spent verdict → EndsAt Named verdict
   sited_by limit nodes bound spent best Best h = tt
   sited_by limit nodes bound spent best NoTiming h = tt
   sited_by limit nodes bound spent best (Stopped (Work units)) h = tt

@@ -31,5 +31,6 @@ artery_ends_prove a v = record {
 }
 
 -- the vertex of an optimal end is a point of the box
-pub end_vertex : (a : Street) (line : BoxLine) → IsValid a → (box : Area) (xs : List ℚ) → line.area ≡ box → end_move (program_of a) line ≡ optimal → xs ≡ end_point (program_of a) line → IsVertex a box xs
+pub end_vertex : (a : Street) (line : BoxLine) → IsValid a → (box : Area) (xs : List ℚ) → line.area ≡ box → end_move (program_of a) line ≡ optimal
+    → xs ≡ end_point (program_of a) line → IsVertex a box xs
 end_vertex a line v box xs e o x = subst (λ b. IsVertex a b xs) e (subst (IsVertex a line.area) (sym x) (optimal_end a line v o).vertex)

@@ -77,4 +77,5 @@ module _ {T W : Type 0} (worth : T → ℚ) (found : Found T W) (value : Option 
   certificate_is warrant w = w ∙ parts_are
 
   pub certificate_parts : (names : Table) → IsCertifiableIn names found → IsCertificateIn names (record { claim = claim; timing = timing; nodes = made })
-  certificate_parts names c = subst (λ (w : WarrantWith T). IsCertificateIn names w) (sym parts_are) (record { timing = has_timing worth found.timing found.verdict found.bound c.timing; tree = c.tree; nodes = c.nodes })
+  certificate_parts names c = subst (λ (w : WarrantWith T). IsCertificateIn names w) (sym parts_are)
+      (record { timing = has_timing worth found.timing found.verdict found.bound c.timing; tree = c.tree; nodes = c.nodes })

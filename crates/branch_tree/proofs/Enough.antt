@@ -22,7 +22,8 @@ too_low : (enough : ℕ) (limit : Option ℕ) (spent : ℕ) → limit ≡ Some s
 too_low enough None spent e h = cc
 too_low enough (Some n) spent e h = h
 
-pub within : {T K W : Type 0} (r : Rules T K W) (sets : ℕ) → IsShort r sets → r.IsSound → IsEnough r → (limit : Option ℕ) (nodes : List TreeNode) (best : Option (Incumbent T)) (bound : ℚ) (spent : ℕ) (verdict : Verdict W)
+pub within : {T K W : Type 0} (r : Rules T K W) (sets : ℕ) → IsShort r sets → r.IsSound → IsEnough r → (limit : Option ℕ) (nodes : List TreeNode)
+    (best : Option (Incumbent T)) (bound : ℚ) (spent : ℕ) (verdict : Verdict W)
     → IsAnswer r limit nodes best bound spent verdict → IsWithin (enough_for r.root sets) limit verdict
 within r sets short s enough limit nodes best bound spent Best h = tt
 within r sets short s enough limit nodes best bound spent NoTiming h = tt

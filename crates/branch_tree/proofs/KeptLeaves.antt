@@ -1,5 +1,6 @@
 -- The leaf of a line's end, and the start leaf, are leaves that a certificate keeps: their rows have names and ascend, and are few.
-use Rattle.std.proofs.Common.{arith, ◌≡◌, ℕ, pos, zero, suc, ◌<◌, ◌≤◌, inl, inr, Bool, true, false, true≢false, cond, Option, None, Some, List, [], ◌∷◌, ◌++◌, length, All, refl, sym, subst, length-append}
+use Rattle.std.proofs.Common.{arith, ◌≡◌, ℕ, pos, zero, suc, ◌<◌, ◌≤◌, inl, inr, Bool, true, false, true≢false, cond, Option, None, Some, List, []}
+use Rattle.std.proofs.Common.{◌∷◌, ◌++◌, length, All, refl, sym, subst, length-append}
 use Rattle.std.proofs.lemmas.Bool.{lt-ltb, eq-eqb}
 use Rattle.std.proofs.lemmas.List.{append-nil}
 use Rattle.std.proofs.lemmas.List.Elements.{All-nil, All-cons, All-append}
@@ -123,7 +124,8 @@ module _ (table : Table) (names : List RowId) (f : ℕ → ℚ) where
       )
 
 -- so is the leaf of each end of a program whose names are those of a table
-pub program_kept : {T W : Type 0} (table : Table) (p : Program T W) (line : BoxLine) → length p.names ≤ 10000 → IsAscending p.names → ((k : ℕ) → k < length p.names → IsNamedIn table (name_in p.names k))
+pub program_kept : {T W : Type 0} (table : Table) (p : Program T W) (line : BoxLine) → length p.names ≤ 10000 → IsAscending p.names
+    → ((k : ℕ) → k < length p.names → IsNamedIn table (name_in p.names k))
     → IsNodeIn table (LeafOf (end_leaf p line))
 unfolding end_leaf
 program_kept table p line most ascending named = pick (end_move p line)

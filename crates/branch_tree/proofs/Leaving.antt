@@ -66,11 +66,13 @@ wide_pivots t in_ratio w e = pick (chosen_row t) e
     pick (Some r) e = by_ratio t r in_ratio w (ratio_refusal t r) refl e
 
 -- so it comes before the end
-pub wide_before : {T W : Type 0} (p : Program T W) (line : BoxLine) → p.IsSound → (k : ℕ) (in_ratio : Bool) (w : WideCell) → IsReached p line k → step_at p line k ≡ steps.Wide in_ratio w → k < steps_of p line
+pub wide_before : {T W : Type 0} (p : Program T W) (line : BoxLine) → p.IsSound → (k : ℕ) (in_ratio : Bool) (w : WideCell) → IsReached p line k
+    → step_at p line k ≡ steps.Wide in_ratio w → k < steps_of p line
 wide_before p line v k in_ratio w r e = due_before p line v k (due_at p line k r (wide_pivots (table_after p line k) in_ratio w e))
 
 -- ---- a refused sum
-pub ends_unproved : {T K : Type 0} (p : Program T SitePart) (m : Meaning K p) (IsFor : Area → Type 0) → EndsProve p m IsFor → (line : BoxLine) (leaf : Leaf) (f : SumFault) → leaf.multipliers.items ≡ end_leaf p line
+pub ends_unproved : {T K : Type 0} (p : Program T SitePart) (m : Meaning K p) (IsFor : Area → Type 0) → EndsProve p m IsFor → (line : BoxLine) (leaf : Leaf) (f : SumFault)
+    → leaf.multipliers.items ≡ end_leaf p line
     → p.leaf_fault line.area (end_leaf p line) ≡ Some f → EndsUnproved (rules_from p m) line
 ends_unproved p m IsFor q line leaf f read e =
     let told = sym e ∙ ap (p.leaf_fault line.area) (sym read) in

@@ -72,7 +72,8 @@ module _ (t : Tableau) (shaped : IsShaped t) where
       let row = c.row in
       each_earlier IsCell (turn_refusal r j (tableaus.line t r)) _ (turns r j (tableaus.line t r) (omega arith) c.place (shaped.lines r c.row))
       (each_earlier IsCell (clear_refusal (height t) j _ t.goal _) _ (clears (height t) j _ t.goal _ (omega arith) c.place shaped.goals)
-      (each_first IsCell (row_refusal r j _ _ t.rows) (height t) (λ i l. each_cond IsCell (eqb i r) None _ (each_none IsCell) (clears i j _ (tableaus.line t i) _ (omega arith) c.place (shaped.lines i l)))))
+      (each_first IsCell (row_refusal r j _ _ t.rows) (height t) (λ i l. each_cond IsCell (eqb i r) None _ (each_none IsCell)
+      (clears i j _ (tableaus.line t i) _ (omega arith) c.place (shaped.lines i l)))))
 
   -- what a step names
   abbrev IsNamed : Step → Type 0

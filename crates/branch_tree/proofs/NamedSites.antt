@@ -196,7 +196,8 @@ module _ (rows : Source) (Has : RowId → Type 0) (there : (row : RowId) → row
   unfolding fault_with
   weight_named sum w e = pick (rows.has w.row) refl
     where
-      pick : (b : Bool) → rows.has w.row ≡ b → Each IsFaultThere (earlier (refusal_if (not b) (fault.NoSuchRow w.row)) (earlier (refusal_if (is_lt (cmp_ℚ w.by (number 0))) (fault.Negative w.row)) (wide_fault w.row (sums.sum_refusal w.by (rows.row w.row) sum))))
+      pick : (b : Bool) → rows.has w.row ≡ b → Each IsFaultThere (earlier (refusal_if (not b) (fault.NoSuchRow w.row))
+          (earlier (refusal_if (is_lt (cmp_ℚ w.by (number 0))) (fault.Negative w.row)) (wide_fault w.row (sums.sum_refusal w.by (rows.row w.row) sum))))
       pick true h =
           each_earlier IsFaultThere (refusal_if (is_lt (cmp_ℚ w.by (number 0))) (fault.Negative w.row)) _ (each_if IsFaultThere _ _ tt)
           (wide_named w.row (there w.row h) _ (sum_placed w.by (rows.row w.row) sum e))
@@ -216,7 +217,8 @@ module _ (a : Street) (rows columns : ℕ) (Has : RowId → Type 0) where
   IsPart = IsPartIn a rows columns Has
 
   -- as programs name one
-  sum_named : {T : Type 0} (p : Program T SitePart) → ((row : RowId) (at : WideAt) → p.sum_part row at ≡ part.LeafSum row at) → (o : Option SumFault) → Each (IsNamedFault Has columns) o → Each IsPart (sum_refusal p o)
+  sum_named : {T : Type 0} (p : Program T SitePart) → ((row : RowId) (at : WideAt) → p.sum_part row at ≡ part.LeafSum row at) → (o : Option SumFault)
+      → Each (IsNamedFault Has columns) o → Each IsPart (sum_refusal p o)
   sum_named p named None h = each_none IsPart
   sum_named p named (Some (fault.Wide row w)) h = each_some IsPart (p.sum_part row w) (subst IsPart (sym (named row w)) (h (fault.Wide row w) refl))
   sum_named p named (Some (fault.NoSuchRow row)) h = each_none IsPart
@@ -250,6 +252,7 @@ refusal_named a Has p line v ratios cells sums faults vertex k = pick (step_at p
 pub part_named : (a : Street) (line : BoxLine) → IsValid a → (k : ℕ) → Each (IsPartOf a) (refusal_at (program_of a) line k)
 part_named a line v k =
     refusal_named a (λ row. HasRow a (name_of row.family row.index)) (program_of a) line v (λ w. refl) (λ w. refl) (λ row at. refl)
-    (fault_named (artery_rows a line.area) (λ row. HasRow a (name_at row)) (λ row h. (row_decided a (name_at row)).0 h) (λ row. written_width a (form_of a line.area (name_at row))) (end_leaf (program_of a) line))
+    (fault_named (artery_rows a line.area) (λ row. HasRow a (name_at row)) (λ row h. (row_decided a (name_at row)).0 h) (λ row. written_width a (form_of a line.area (name_at row)))
+    (end_leaf (program_of a) line))
     (vertex_named a (length (rows_of a)) (width (count a)) (λ row. HasRow a (name_at row)) (recovered a line.area (end_point (program_of a) line))
     (outcome_named a v (width (count a)) (omega arith) line.area (end_point (program_of a) line) (point_columns (program_of a) line v) _ refl)) k

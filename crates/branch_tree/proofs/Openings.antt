@@ -100,5 +100,6 @@ module _ {T K : Type 0} (p : Program T SitePart) (m : Meaning K p) (IsFor : Area
       subst (IsReadEnd (rules_from p m) line pivots) (sym cut.1)
       (opens_cut p m IsFor q line leaf read fits r.move_is bound known place point cut.0 (outcome answer (reading.SplitAt place) o g) vertex (kept_read p line tableau m.Keeps cut.0 s r cut.2))
 
-  pub read_stuck : (answer : Read T) (w : SitePart) (pivots : ℕ) → pivots ≡ capped (steps_of p line) → p.outcome area point.values.items ≡ outcome_by answer → answer ≡ reading.Wide w → OpensStuck (rules_from p m) line leaf bound pivots w
+  pub read_stuck : (answer : Read T) (w : SitePart) (pivots : ℕ) → pivots ≡ capped (steps_of p line) → p.outcome area point.values.items ≡ outcome_by answer
+      → answer ≡ reading.Wide w → OpensStuck (rules_from p m) line leaf bound pivots w
   read_stuck answer w pivots h o g = opens_stuck p m IsFor q line leaf read fits r.move_is bound known w pivots (steps_of p line) r.reached r.step refl h (outcome answer (reading.Wide w) o g)

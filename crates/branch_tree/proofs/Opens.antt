@@ -61,7 +61,8 @@ module _ {T K W : Type 0} (r : Rules T K W) (line : BoxLine) (before after : Met
 
 -- ---- boxes
 -- a part's box is of the kind that every box on a line is of
-pub part_is_for : {T K W : Type 0} (r : Rules T K W) (IsFor : Area → Type 0) → ((line : BoxLine) → IsMet r line → IsFor line.area) → (kept : K) (area : Area) (parent line : BoxLine) (place : At) → IsPart r parent place line kept area → IsFor area
+pub part_is_for : {T K W : Type 0} (r : Rules T K W) (IsFor : Area → Type 0) → ((line : BoxLine) → IsMet r line → IsFor line.area)
+    → (kept : K) (area : Area) (parent line : BoxLine) (place : At) → IsPart r parent place line kept area → IsFor area
 part_is_for r IsFor boxes kept area parent line place p = pick p.side
   where
     pick : (line ≡ low_line place parent) ⊎ (line ≡ high_line place parent) → IsFor area
@@ -83,7 +84,8 @@ unfolding table_after steps_of
 part_basis a kept area parent line place v p = subst (IsBasisOf a) (sym p.kept_is) (basis_of_end a parent.area (first_of a parent.area parent.above) (first_is a parent.area parent.above v))
 
 -- and what it gives is the first tableau of the part's line
-pub part_first : (a : Street) (kept : Kept) (area : Area) (parent line : BoxLine) (place : At) → IsPart (rules_of a) parent place line kept area → entry_or_opening a area kept.basis.items ≡ first_of a line.area line.above
+pub part_first : (a : Street) (kept : Kept) (area : Area) (parent line : BoxLine) (place : At) → IsPart (rules_of a) parent place line kept area
+    → entry_or_opening a area kept.basis.items ≡ first_of a line.area line.above
 unfolding first_of table_after steps_of
 part_first a kept area parent line place p = pick p.side
   where
@@ -95,7 +97,12 @@ part_first a kept area parent line place p = pick p.side
     pick (inr e) = below (high_part parent.area place) (p.area_is ∙ ap (λ (l : BoxLine). l.area) e) ∙ ap (λ (l : BoxLine). first_of a l.area l.above) (sym e)
 
 -- the state after an entry, refused or not
-entered_by : (a : Street) (box : Area) (vs : List ℕ) (b : Bool) → (if b then entered_box a box vs else opened_box a box) ≡ record { table = cond b (entry vs (loaded a box)) (opening a box); names = rows_of a; spent = false }
+entered_by : (a : Street) (box : Area) (vs : List ℕ) (b : Bool) → (if b then entered_box a box vs else opened_box a box) ≡ record {
+  table =
+      cond b (entry vs (loaded a box)) (opening a box);
+  names = rows_of a;
+  spent = false;
+}
 entered_by a box vs true = refl
 entered_by a box vs false = refl
 
@@ -104,7 +111,8 @@ entered_named : (a : Street) (box : Area) (vs : List ℕ) (b : Bool) → b ≡ i
 unfolding entry_or_opening
 entered_named a box vs b e = entered_by a box vs b ∙ ap (λ c. record { table = cond c (entry vs (loaded a box)) (opening a box); names = rows_of a; spent = false }) e
 
-pub part_begins : (a : Street) (kept : Kept) (area : Area) (parent line : BoxLine) (place : At) (t : NamedTableau) (b : Bool) (vs : List ℕ) → IsPart (rules_of a) parent place line kept area → vs ≡ kept.basis.items
+pub part_begins : (a : Street) (kept : Kept) (area : Area) (parent line : BoxLine) (place : At) (t : NamedTableau) (b : Bool) (vs : List ℕ)
+    → IsPart (rules_of a) parent place line kept area → vs ≡ kept.basis.items
     → b ≡ is_none (entry_refusal vs (loaded a area)) → t ≡ (if b then entered_box a area vs else opened_box a area) → t ≡ named_first (program_of a) line
 part_begins a kept area parent line place t b vs p h e f =
     f ∙ entered_named a area vs b e ∙ ap (λ u. record { table = u; names = rows_of a; spent = false }) (ap (entry_or_opening a area) h ∙ part_first a kept area parent line place p)

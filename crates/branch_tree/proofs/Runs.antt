@@ -109,15 +109,18 @@ module _ {T W : Type 0} (p : Program T W) (line : BoxLine) where
   leaf_wide : (row : RowId) (at : WideAt) → p.leaf_fault line.area (end_leaf p line) ≡ Some (fault.Wide row at) → leaf_refusal p line ≡ Some (p.sum_part row at)
   leaf_wide row at f = ap (sum_refusal p) f
 
-  pub wide_sum_optimal : (k : ℕ) (row : RowId) (at : WideAt) → IsReached p line k → step_at p line k ≡ steps.Optimal → p.leaf_fault line.area (end_leaf p line) ≡ Some (fault.Wide row at) → IsWide p line k (p.sum_part row at)
+  pub wide_sum_optimal : (k : ℕ) (row : RowId) (at : WideAt) → IsReached p line k → step_at p line k ≡ steps.Optimal
+      → p.leaf_fault line.area (end_leaf p line) ≡ Some (fault.Wide row at) → IsWide p line k (p.sum_part row at)
   unfolding refusal_at
   wide_sum_optimal k row at r e f = record { reached = r; refused = ap (refusal_by p line) e ∙ ap (λ o. earlier o (vertex_refusal (p.outcome line.area (end_point p line)))) (leaf_wide row at f) }
 
-  pub wide_sum_infeasible : (k i : ℕ) (row : RowId) (at : WideAt) → IsReached p line k → step_at p line k ≡ steps.Infeasible i → p.leaf_fault line.area (end_leaf p line) ≡ Some (fault.Wide row at) → IsWide p line k (p.sum_part row at)
+  pub wide_sum_infeasible : (k i : ℕ) (row : RowId) (at : WideAt) → IsReached p line k → step_at p line k ≡ steps.Infeasible i
+      → p.leaf_fault line.area (end_leaf p line) ≡ Some (fault.Wide row at) → IsWide p line k (p.sum_part row at)
   unfolding refusal_at
   wide_sum_infeasible k i row at r e f = record { reached = r; refused = ap (refusal_by p line) e ∙ leaf_wide row at f }
 
-  pub wide_vertex : (k : ℕ) (w : W) → IsReached p line k → step_at p line k ≡ steps.Optimal → p.leaf_fault line.area (end_leaf p line) ≡ None → p.outcome line.area (end_point p line) ≡ Refused w → IsWide p line k w
+  pub wide_vertex : (k : ℕ) (w : W) → IsReached p line k → step_at p line k ≡ steps.Optimal → p.leaf_fault line.area (end_leaf p line) ≡ None
+      → p.outcome line.area (end_point p line) ≡ Refused w → IsWide p line k w
   unfolding refusal_at
   wide_vertex k w r e f g = record {
     reached = r;

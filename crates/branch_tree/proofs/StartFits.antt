@@ -112,16 +112,19 @@ module _ (a : Street) (v : IsValid a) where
 
   first_added : (box : Area) → weights_fault a box (blank (width (count a))) (first_weight ∷ []) ≡ None
   first_added box =
-      let r = sum_none 100000 100000 100000 (number 1) (written a (wait_form a Outbound 1)) (blank (width (count a))) small_once (small_row Outbound signal_one) (small_blank (width (count a))) (omega arith) (omega arith) in
+      let r = sum_none 100000 100000 100000 (number 1) (written a (wait_form a Outbound 1)) (blank (width (count a))) small_once (small_row Outbound signal_one)
+      (small_blank (width (count a))) (omega arith) (omega arith) in
       let f = fault_free a box (blank (width (count a))) first_weight (record { there = signal_one; positive = one_positive; fits = r }) in
       rw f refl
 
   second_added : (box : Area) → weights_fault a box (blank (width (count a))) (first_weight ∷ second_weight ∷ []) ≡ None
   unfolding with_weight
   second_added box =
-      let r = sum_none 100000 100000 100000 (number 1) (written a (wait_form a Outbound 1)) (blank (width (count a))) small_once (small_row Outbound signal_one) (small_blank (width (count a))) (omega arith) (omega arith) in
+      let r = sum_none 100000 100000 100000 (number 1) (written a (wait_form a Outbound 1)) (blank (width (count a))) small_once (small_row Outbound signal_one)
+      (small_blank (width (count a))) (omega arith) (omega arith) in
       let f = fault_free a box (blank (width (count a))) first_weight (record { there = signal_one; positive = one_positive; fits = r }) in
-      let q = sum_none 100000 100000 (2 * (100000 * (100000 * 100000))) a.head.ratio (written a (wait_form a Inbound 1)) once (small_ratio a v) (small_row Inbound signal_one) small_first (omega arith) (omega arith) in
+      let q = sum_none 100000 100000 (2 * (100000 * (100000 * 100000))) a.head.ratio (written a (wait_form a Inbound 1)) once (small_ratio a v)
+      (small_row Inbound signal_one) small_first (omega arith) (omega arith) in
       let g = fault_free a box once second_weight (record { there = signal_one; positive = ratio_low a v; fits = q }) in
       rw (f, g) refl
 

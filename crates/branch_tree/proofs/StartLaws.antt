@@ -81,7 +81,8 @@ module _ (a : Street) (v : IsValid a) where
   start_coef j = pick (eq_by_cmp cmp_ℚ a.head.ratio (number 0)) refl
     where
       pick : (b : Bool) → b ≡ eq_by_cmp cmp_ℚ a.head.ratio (number 0)
-          → coef (sum_of a (root_box a) (record { row = first_out; by = number 1 } ∷ cond b [] (record { row = first_in; by = a.head.ratio } ∷ []))).coefs j ≡ wait_coef Outbound j +ℚ a.head.ratio *ℚ wait_coef Inbound j
+          → coef (sum_of a (root_box a) (record { row = first_out; by = number 1 } ∷ cond b [] (record { row = first_in; by = a.head.ratio } ∷ []))).coefs
+          j ≡ wait_coef Outbound j +ℚ a.head.ratio *ℚ wait_coef Inbound j
       pick true e =
           sum_coef (number 1) (line a (wait_form a Outbound 1)).coefs [] j
           ∙ ring (lit (pos 1) ⊗ at 0 ⊕ lit (pos 0)) (at 0 ⊕ lit (pos 0) ⊗ at 1) (wait_coef Outbound j ∷ wait_coef Inbound j ∷ []) refl
@@ -101,7 +102,8 @@ module _ (a : Street) (v : IsValid a) where
   in_low j = product_not_negative _ _ (ratio_low a v) (wait_low Inbound j)
 
   goal_under : (j : ℕ) → goal_coef j ≤ℚ (wait_coef Outbound j +ℚ a.head.ratio *ℚ wait_coef Inbound j)
-  goal_under zero = subst (λ y. y ≤ℚ (wait_coef Outbound 0 +ℚ a.head.ratio *ℚ wait_coef Inbound 0)) (out_first ∙ sym goal_first) (more_left (wait_coef Outbound 0) (a.head.ratio *ℚ wait_coef Inbound 0) (in_low 0))
+  goal_under zero = subst (λ y. y ≤ℚ (wait_coef Outbound 0 +ℚ a.head.ratio *ℚ wait_coef Inbound 0)) (out_first ∙ sym goal_first)
+      (more_left (wait_coef Outbound 0) (a.head.ratio *ℚ wait_coef Inbound 0) (in_low 0))
   goal_under (suc zero) =
       subst (λ y. y ≤ℚ (wait_coef Outbound 1 +ℚ a.head.ratio *ℚ wait_coef Inbound 1))
       (ap (λ y. a.head.ratio *ℚ y) in_second ∙ ring (at 0 ⊗ lit (pos 1)) (at 0) (a.head.ratio ∷ []) refl ∙ sym goal_second)

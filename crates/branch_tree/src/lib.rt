@@ -1,11 +1,11 @@
 //! The search of an artery's best timing: branch and bound over boxes of block sums and shift ranks, each solved by the dual
 //! simplex method, the root from its opening tableau on and a part from the basis where the box above it ended.
 //!
-//! Begin with `search`. What it answers is `IsSearch` (`specs/Searches.antt`): a tree of boxes that proves the verdict, each
-//! box of which was needed, the units that it took, and why the search stopped. `certificate_of` makes the certificate of an
-//! answer, which `certificate_checker` accepts. `search_and_check` does both and checks that certificate; what it answers is
+//! Begin with `search_and_check`, which searches, makes the certificate of what was found and checks it. What it answers is
 //! `IsSearched` (`specs/Searched.antt`): what the search says, and what its accepted certificate proves of every timing on any
-//! grid. `specs/Told.antt` and `specs/SiteNames.antt` say what else follows of an answer.
+//! grid. `specs/Told.antt` and `specs/SiteNames.antt` say what else follows of an answer. `search` does the first alone; what it
+//! answers is `IsSearch` (`specs/Searches.antt`): a tree of boxes that proves the verdict, each box of which was needed, the
+//! units that it took, and why the search stopped. `certificate_of` makes the certificate of that, which `certificate_checker` accepts.
 //!
 //! - `specs/Program.antt`: what a program over boxes is, of which all runs are told; its lines are those of `branch_and_bound`, a box
 //!   with the boxes above it. `specs/ArteryProgram.antt`: `program_of`, an artery as one.

@@ -36,7 +36,8 @@ bound_out (Stopped bound (Some value)) h = let above = not_below bound value h i
 
 -- ---- the timing, of any kind
 module _ {T : Type 0} (good : T → Type 0) (worth : T → ℚ) where
-  pub timed_in : {F : Type 0} (claim : Claim) (timing : Option T) → HasTiming claim timing → IfThere good timing → kept_refusal {F = F} (option_map worth timing) (value_of claim) ≡ None → IsTimedBy good worth timing (value_of claim)
+  pub timed_in : {F : Type 0} (claim : Claim) (timing : Option T) → HasTiming claim timing → IfThere good timing → kept_refusal {F = F} (option_map worth timing) (value_of claim) ≡ None
+      → IsTimedBy good worth timing (value_of claim)
   timed_in (Best value) None h g e = h
   timed_in (Best value) (Some t) h g e = (g, ne_false (worth t) value (sym (not_refused (not (eq_by_cmp cmp_ℚ (worth t) value)) _ e)))
   timed_in NoTiming None h g e = tt

@@ -39,7 +39,8 @@ module _ (rows : Source) (x : List ℚ) (met : (row : RowId) → rows.has row �
   total_met ws h = weights_met (blank rows.width) ws h (blank_met rows.width x)
 
 -- ---- what it shows
-keeps_says : (goal sum : Sheet) (limit : Option ℚ) (x : List ℚ) → length goal.coefs ≡ length sum.coefs → AllNonNegative x → IsMet x (row_of sum) → Keeps goal limit sum → IsWithin limit (dot goal.coefs x)
+keeps_says : (goal sum : Sheet) (limit : Option ℚ) (x : List ℚ) → length goal.coefs ≡ length sum.coefs → AllNonNegative x → IsMet x (row_of sum)
+    → Keeps goal limit sum → IsWithin limit (dot goal.coefs x)
 keeps_says goal sum None x e p m k = refuted sum x k p m
 keeps_says goal sum (Some limit) x e p m (inl k) = covered sum goal limit x e k p m
 keeps_says goal sum (Some limit) x e p m (inr k) = absurd (refuted sum x k p m)

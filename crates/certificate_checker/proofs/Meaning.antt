@@ -83,7 +83,8 @@ best_timed a value None b h = h
 best_timed a value (Some t) b h = (record { good = h.0; greatest = subst (Bounded a) (sym h.1) b }, h.1)
 
 -- what an accepted certificate claims holds
-claim_holds : (a : Street) (claim : Claim) (timing : Option TimingRecord) (ns : List Node) → IsStreet a → IsTimed a timing (value_of claim) → AreProofs a (limit_of claim) (root_box a ∷ []) ns → ClaimHolds a claim timing
+claim_holds : (a : Street) (claim : Claim) (timing : Option TimingRecord) (ns : List Node) → IsStreet a → IsTimed a timing (value_of claim)
+    → AreProofs a (limit_of claim) (root_box a ∷ []) ns → ClaimHolds a claim timing
 claim_holds a (Best value) timing ns h i c = best_timed a value timing (λ t g. root_says a t h g (Some value) ns c) i
 claim_holds a NoTiming timing ns h i c = λ t g. root_says a t h g None ns c
 claim_holds a (Stopped bound value) timing ns h i c = (λ t g. root_says a t h g (Some bound) ns c, i)

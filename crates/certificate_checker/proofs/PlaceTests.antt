@@ -41,7 +41,8 @@ place_decided box (Loop i at) =
     (leb-true 1 i, le-leb 1 i) (leb-true i (length box.loops), le-leb i (length box.loops)) (int_le_decided (loop_span box i).least at) (int_lt_decided at (loop_span box i).most)
 place_decided box (Turn i rank) =
     all_four (nat_le 1 i) (nat_le i (length box.turns)) (nat_le (turn_span box i).least rank) (nat_lt rank (turn_span box i).most)
-    (leb-true 1 i, le-leb 1 i) (leb-true i (length box.turns), le-leb i (length box.turns)) (leb-true (turn_span box i).least rank, le-leb (turn_span box i).least rank) (Decides-ltb rank (turn_span box i).most)
+    (leb-true 1 i, le-leb 1 i) (leb-true i (length box.turns), le-leb i (length box.turns)) (leb-true (turn_span box i).least rank, le-leb (turn_span box i).least rank)
+    (Decides-ltb rank (turn_span box i).most)
 
 pub not_out : (b : Bool) → not b ≡ false → b ≡ true
 not_out true e = refl

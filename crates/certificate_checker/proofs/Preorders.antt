@@ -59,7 +59,8 @@ module _ (a : Street) (limit : Option ℚ) where
     nodes_are : ns ≡ preorders trees
     prove : AllProve boxes trees
 
-  with_split : (box : Area) (boxes : List Area) (at : At) (ns : List Node) → IsPlace box at → (ts : List ProofTree) → ns ≡ preorders ts → AllProve (low_part box at ∷ high_part box at ∷ boxes) ts → IsForest (box ∷ boxes) (SplitAt at ∷ ns)
+  with_split : (box : Area) (boxes : List Area) (at : At) (ns : List Node) → IsPlace box at → (ts : List ProofTree) → ns ≡ preorders ts
+      → AllProve (low_part box at ∷ high_part box at ∷ boxes) ts → IsForest (box ∷ boxes) (SplitAt at ∷ ns)
   with_split box boxes at ns i [] e p = absurd p
   with_split box boxes at ns i (low ∷ []) e p = absurd p.1
   with_split box boxes at ns i (low ∷ high ∷ ts) e p = record {

@@ -40,7 +40,8 @@ module _ (r goal : Sheet) (limit : ℚ) where
   unfolding uncovered
   covered_out h =
       ap₂ earlier
-      (first_none (λ k. below (number_at r.coefs k) (number_at goal.coefs k) k) (length r.coefs) (λ j l. ap (λ b. refusal_if b (Cell j)) (not_below (number_at r.coefs j) (number_at goal.coefs j) (h.coefs j l))))
+      (first_none (λ k. below (number_at r.coefs k) (number_at goal.coefs k) k) (length r.coefs)
+      (λ j l. ap (λ b. refusal_if b (Cell j)) (not_below (number_at r.coefs j) (number_at goal.coefs j) (h.coefs j l))))
       (ap (λ b. refusal_if b Bound) (not_below limit r.bound h.bound))
 
 module _ (r : Sheet) where

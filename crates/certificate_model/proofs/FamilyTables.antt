@@ -20,7 +20,8 @@ at_index (n ∷ ns) zero d lt = refl
 at_index (n ∷ ns) (suc i) d lt = at_index ns i d (omega arith)
 
 -- and whether it has one row alone
-later_lone : (n : ℕ) (f : FamilyName) (fs : List FamilyName) (k : ℕ) (b : Bool) → n < k → (if b then (k == n) || lone_among (n + 1) (table_of fs) k else lone_among (n + 1) (table_of fs) k) ≡ lone_among (n + 1) (table_of fs) k
+later_lone : (n : ℕ) (f : FamilyName) (fs : List FamilyName) (k : ℕ) (b : Bool) → n < k
+    → (if b then (k == n) || lone_among (n + 1) (table_of fs) k else lone_among (n + 1) (table_of fs) k) ≡ lone_among (n + 1) (table_of fs) k
 later_lone n f fs k true lt = rw (lt-eqb n k lt) refl
 later_lone n f fs k false lt = refl
 
@@ -57,10 +58,12 @@ pub zero_lone : (table : Table) → lone_among 1 table 0 ≡ false
 zero_lone table = none_lone 1 table 0 (omega arith)
 
 -- as an index looks them up
-pub name_here : (names : List FamilyName) (i family : ℕ) (f d : FamilyName) → true ≡ ltb i (length names) → f ≡ slice_index_or names i d → i ≡ family - 1 → f.text.now ≡ family_name_in (table_of names) family
+pub name_here : (names : List FamilyName) (i family : ℕ) (f d : FamilyName) → true ≡ ltb i (length names) → f ≡ slice_index_or names i d → i ≡ family - 1
+    → f.text.now ≡ family_name_in (table_of names) family
 name_here names i family f d lt is at = ap (λ (g : FamilyName). g.text.now) is ∙ at_index names i d (ltb-true _ _ (sym lt)) ∙ ap (λ (k : ℕ). slice_index_or (texts (table_of names)) k []) at
 
-pub lone_here : (names : List FamilyName) (i family : ℕ) (f d : FamilyName) → true ≡ ltb i (length names) → f ≡ slice_index_or names i d → i ≡ family - 1 → (family ≡ 0 → ⊥) → f.is_lone ≡ is_lone_in (table_of names) family
+pub lone_here : (names : List FamilyName) (i family : ℕ) (f d : FamilyName) → true ≡ ltb i (length names) → f ≡ slice_index_or names i d → i ≡ family - 1
+    → (family ≡ 0 → ⊥) → f.is_lone ≡ is_lone_in (table_of names) family
 lone_here names i family f d lt is at some =
     let e : 1 + i ≡ family = one_more family some (omega arith) in
     ap (λ (g : FamilyName). g.is_lone) is ∙ sym (lone_at 1 names i d (ltb-true _ _ (sym lt))) ∙ ap (λ (k : ℕ). is_lone_in (table_of names) k) e

@@ -37,7 +37,12 @@ link_is_flat (Some o) (Some i) l = omega arith
 
 pub canonical_is_flat : (a : Street) → members_depth (canonical a) ≤ 3
 canonical_is_flat a =
-    omega (arith, head_is_flat (a.head.version == second_version) a.head.name a.head, items_are_flat signal_data 2 signal_is_flat a.signals, items_are_flat link_data 2 (λ l. link_is_flat l.change_out l.change_in l) a.links)
+    omega (
+      arith,
+      head_is_flat (a.head.version == second_version) a.head.name a.head,
+      items_are_flat signal_data 2 signal_is_flat a.signals,
+      items_are_flat link_data 2 (λ l. link_is_flat l.change_out l.change_in l) a.links,
+    )
 
 -- ---- dates
 items_are_valid : {X : Type 0} (f : X → Data) → ((x : X) → has_valid_dates (f x) ≡ true) → (xs : List X) → items_have_valid_dates (items_of (map f xs)) ≡ true

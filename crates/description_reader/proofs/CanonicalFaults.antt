@@ -1,5 +1,6 @@
 -- The values of a canonical description of an artery without a fault have no fault.
-use Rattle.std.proofs.Common.{◌≡◌, ℕ, ◌-◌, ◌==◌, pos, ℤ, List, [], ◌∷◌, length, map, Bool, true, false, not, Option, None, Some, option_map, nat_le, nat_lt, refl, sym, ◌∙◌, ap, int_eq, unsigned_abs, eq-eqb, arith}
+use Rattle.std.proofs.Common.{◌≡◌, ℕ, ◌-◌, ◌==◌, pos, ℤ, List, [], ◌∷◌, length, map, Bool, true, false, not, Option, None, Some, option_map, nat_le}
+use Rattle.std.proofs.Common.{nat_lt, refl, sym, ◌∙◌, ap, int_eq, unsigned_abs, eq-eqb, arith}
 use Rattle.std.specs.Prelude.{codes, unwrap_or, if◌then◌else◌}
 use Rattle.rational_theory.specs.Rational.{ℚ, whole}
 use Rattle.std.specs.List.{All}
@@ -14,10 +15,13 @@ use Rattle.progression.specs.declared.parts.Link.{Link}
 use Rattle.progression.specs.declared.parts.Pair.{Pair}
 use Rattle.progression.specs.declared.parts.Units.{Units}
 use Rattle.progression.specs.declared.parts.Units.TheVariants.{Metric, English}
-use Rattle.artery_model.specs.Bounds.{first_version, second_version, least_signals, most_signals, most_first_signals, least_share, most_share, least_parts, most_parts, least_distance, most_distance, least_speed, most_speed, least_cycle, most_cycle, least_change, most_change, least_ratio, most_ratio}
+use Rattle.artery_model.specs.Bounds.{first_version, second_version, least_signals, most_signals, most_first_signals, least_share, most_share}
+use Rattle.artery_model.specs.Bounds.{least_parts, most_parts, least_distance, most_distance, least_speed, most_speed, least_cycle, most_cycle}
+use Rattle.artery_model.specs.Bounds.{least_change, most_change, least_ratio, most_ratio}
 use Rattle.artery_model.specs.Faults.{first_fault, each_numbered}
 use Rattle.artery_model.specs.Limits.{within, in_range, is_name_if_there, signal_ranges, link_ranges, artery_fault}
-use Rattle.description_reader.specs.Canonical.{number_data, quantity_data, pair_data, units_text, head_members_in, head_members, signal_members, signal_data, link_members, link_data, canonical, HasFour}
+use Rattle.description_reader.specs.Canonical.{number_data, quantity_data, pair_data, units_text, head_members_in, head_members, signal_members}
+use Rattle.description_reader.specs.Canonical.{signal_data, link_members, link_data, canonical, HasFour}
 use Rattle.description_reader.specs.Checks.{meets}
 use Rattle.description_reader.specs.Judgement.{key_fault, in_table, stage_tests, facts_of, value_tests}
 use Rattle.description_reader.specs.Keys.{unknown_key}
@@ -292,9 +296,11 @@ stage_passes stage a four fits =
     let facts = known second n parts in
     let root = table_passes facts Root (canonical a) (root_known second facts a) (root_keys_pass n parts a fits) stage in
     let signals = ap (λ ds. first_fault (each_numbered (λ i. in_table stage facts (SignalTable i)) 1 ds)) (list_of_items (map signal_data a.signals))
-    ∙ each_made HasFour (signal_ranges parts) (λ i. in_table stage facts (SignalTable i)) signal_data (λ i s h e. signal_passes stage second n parts i s h (signal_fits parts i s e)) 1 a.signals four fits.signals in
+    ∙ each_made HasFour (signal_ranges parts) (λ i. in_table stage facts (SignalTable i)) signal_data (λ i s h e. signal_passes stage second n parts i s h (signal_fits parts i s e))
+    1 a.signals four fits.signals in
     let links = ap (λ ds. first_fault (each_numbered (λ i. in_table stage facts (LinkTable i)) 1 ds)) (list_of_items (map link_data a.links))
-    ∙ each_made (λ l. Unit {0}) (link_ranges n) (λ i. in_table stage facts (LinkTable i)) link_data (λ i l h e. link_passes stage second n parts i l (link_fits n i l e)) 1 a.links (λ k l h. tt) fits.links in
+    ∙ each_made (λ l. Unit {0}) (link_ranges n) (λ i. in_table stage facts (LinkTable i)) link_data (λ i l h e. link_passes stage second n parts i l (link_fits n i l e))
+    1 a.links (λ k l h. tt) fits.links in
     ap (λ f. first_fault (stage_tests Description stage f (table (canonical a)))) (facts_known a)
     ∙ none_of (stage_tests Description stage facts (table (canonical a))) (root, (head_passes stage n parts a.head fits.head, (signals, (links, tt))))
 

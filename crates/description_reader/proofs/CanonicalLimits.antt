@@ -7,9 +7,12 @@ use Rattle.progression.specs.declared.parts.Head.{Head}
 use Rattle.progression.specs.declared.parts.Signal.{Signal}
 use Rattle.progression.specs.declared.parts.Link.{Link}
 use Rattle.progression.specs.declared.parts.Pair.{Pair}
-use Rattle.artery_model.specs.Bounds.{first_version, second_version, least_signals, most_signals_in, least_share, most_share_in, least_parts, most_parts, least_distance, most_distance, least_speed, most_speed, least_cycle, most_cycle, least_change, most_change, least_ratio, most_ratio}
+use Rattle.artery_model.specs.Bounds.{first_version, second_version, least_signals, most_signals_in, least_share, most_share_in, least_parts}
+use Rattle.artery_model.specs.Bounds.{most_parts, least_distance, most_distance, least_speed, most_speed, least_cycle, most_cycle, least_change}
+use Rattle.artery_model.specs.Bounds.{most_change, least_ratio, most_ratio}
 use Rattle.artery_model.specs.Faults.{first_fault, each_numbered, artery_place, link_place}
-use Rattle.artery_model.specs.Limits.{within, in_range, is_name, is_name_if_there, pair_ranges, head_ranges, signal_tests, signal_ranges, change_ranges, link_tests, link_ranges, range_tests, rule_tests, artery_fault}
+use Rattle.artery_model.specs.Limits.{within, in_range, is_name, is_name_if_there, pair_ranges, head_ranges, signal_tests, signal_ranges}
+use Rattle.artery_model.specs.Limits.{change_ranges, link_tests, link_ranges, range_tests, rule_tests, artery_fault}
 use Rattle.artery_model.proofs.Validity.{each_none, passes_of}
 
 -- both limits lie within theirs

@@ -1,5 +1,6 @@
 -- The artery that the values of a canonical description make is the one that it was made of.
-use Rattle.std.proofs.Common.{◌≡◌, ℕ, ◌+◌, ◌-◌, ◌==◌, ◌||◌, not, ◌<◌, ◌≤◌, List, [], ◌∷◌, length, map, Bool, true, false, Option, None, Some, option_map, nat_le, nat_lt, refl, sym, ◌∙◌, ap, ap₂, arith}
+use Rattle.std.proofs.Common.{◌≡◌, ℕ, ◌+◌, ◌-◌, ◌==◌, ◌||◌, not, ◌<◌, ◌≤◌, List, [], ◌∷◌, length, map, Bool, true, false, Option, None, Some}
+use Rattle.std.proofs.Common.{option_map, nat_le, nat_lt, refl, sym, ◌∙◌, ap, ap₂, arith}
 use Rattle.std.specs.Prelude.{unwrap_or, if◌then◌else◌}
 use Rattle.std.specs.List.{All}
 use Rattle.std.proofs.lemmas.Bool.Decides.{nat_tests}
@@ -13,7 +14,8 @@ use Rattle.progression.specs.declared.parts.Link.{Link}
 use Rattle.progression.specs.declared.parts.Pair.{Pair}
 use Rattle.progression.specs.declared.parts.Units.{Units}
 use Rattle.progression.specs.declared.parts.Units.TheVariants.{Metric, English}
-use Rattle.artery_model.specs.Bounds.{first_version, second_version, most_share, least_share, least_parts, most_parts, least_distance, most_distance, least_speed, most_speed, least_cycle, most_cycle, least_change, most_change, least_ratio, most_ratio}
+use Rattle.artery_model.specs.Bounds.{first_version, second_version, most_share, least_share, least_parts, most_parts, least_distance, most_distance}
+use Rattle.artery_model.specs.Bounds.{least_speed, most_speed, least_cycle, most_cycle, least_change, most_change, least_ratio, most_ratio}
 use Rattle.artery_model.specs.Faults.{Fault, first_fault, each_numbered}
 use Rattle.rational_theory.specs.Rational.{ℚ, whole}
 use Rattle.rational_theory.proofs.Compare.{le_true}

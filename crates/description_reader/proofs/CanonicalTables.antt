@@ -1,5 +1,6 @@
 -- The table of a map with one more key, and the numbers of patterns.
-use Rattle.std.proofs.Common.{◌≡◌, ℕ, ◌+◌, List, [], ◌∷◌, ◌++◌, length, Bool, true, false, Ordering, Less, Equal, Greater, String, Global, string_bytes, ◌<◌, map, take, get_or, refl, sym, ◌∙◌, ap, ap₂, arith}
+use Rattle.std.proofs.Common.{◌≡◌, ℕ, ◌+◌, List, [], ◌∷◌, ◌++◌, length, Bool, true, false, Ordering, Less, Equal, Greater, String, Global}
+use Rattle.std.proofs.Common.{string_bytes, ◌<◌, map, take, get_or, refl, sym, ◌∙◌, ap, ap₂, arith}
 use Rattle.std.specs.Ordering.{match_ordering}
 use Rattle.std.specs.BTreeMap.{insert_entry}
 use Rattle.std.specs.String.{string_cmp}

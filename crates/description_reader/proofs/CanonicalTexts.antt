@@ -3,7 +3,8 @@ use Rattle.std.proofs.Common.{◌≡◌, ℕ, ◌+◌, List, [], ◌∷◌, ◌+
 use Rattle.std.specs.Prelude.{codes, if◌then◌else◌}
 use Rattle.toml.specs.Data.{Data, string, integer, float, boolean, datetime, array, table, Items, no_items, item, Members, no_members, member}
 use Rattle.toml.specs.Tables.{Definition, key_value, std_table, array_table, Expression}
-use Rattle.toml.specs.Text.{breaks_lines, before_item, after_item, IsValueText, IsItemsText, IsMembersText, are_tables, is_section, pairs, needs_header, header_of, sections, section, elements, expressions, IsLineText, IsLinesText, IsDocumentText}
+use Rattle.toml.specs.Text.{breaks_lines, before_item, after_item, IsValueText, IsItemsText, IsMembersText, are_tables, is_section, pairs}
+use Rattle.toml.specs.Text.{needs_header, header_of, sections, section, elements, expressions, IsLineText, IsLinesText, IsDocumentText}
 use Rattle.toml.specs.View.{items_of}
 use Rattle.artery_model.specs.Bounds.{second_version}
 use Rattle.progression.specs.Street.{Street}
@@ -150,8 +151,13 @@ link_without (Some o) None l = ((tt, (tt, tt)), given_without l)
 link_without (Some o) (Some i) l = ((tt, (tt, tt)), ((tt, (tt, tt)), given_without l))
 
 canonical_without : (a : Street) → HoldNoFloat (canonical a)
-canonical_without a =
-    (head_without (a.head.version == second_version) a.head.name a.head, (items_without link_data (λ l. link_without l.change_out l.change_in l) a.links, (items_without signal_data signal_without a.signals, (tt, tt))))
+canonical_without a = (
+  head_without (a.head.version == second_version) a.head.name a.head,
+  (
+    items_without link_data (λ l. link_without l.change_out l.change_in l) a.links,
+    (items_without signal_data signal_without a.signals, (tt, tt)),
+  ),
+)
 
 -- the texts of one canonical description are equal
 pub same_text : (a : Street) (x y : List ℕ) → IsPrinted x a → IsPrinted y a → x ≡ y

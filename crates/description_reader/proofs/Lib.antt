@@ -14,5 +14,6 @@ pub mod CanonicalValues
 pub mod LeastKeys
 pub mod Numbered
 pub mod TypedLimits
+pub mod Written
 pub mod Views
 pub mod Validity

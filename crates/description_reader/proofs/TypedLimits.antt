@@ -5,6 +5,10 @@ use Rattle.std.specs.List.{All}
 use Rattle.std.proofs.lemmas.Bool.{true≢false}
 use Rattle.std.proofs.lemmas.Bool.Decides.{nat_tests}
 use Rattle.std.proofs.lemmas.List.Elements.{All-nil, All-cons}
+use Rattle.std.proofs.lemmas.Int.{ints}
+use Rattle.rational_theory.specs.Rational.{whole}
+use Rattle.rational_theory.proofs.Compare.{le_true}
+use Rattle.artery_model.specs.Limits.{at_most}
 use Rattle.toml.specs.Data.{Data, array, no_items, get, as_table}
 use Rattle.artery_model.specs.Bounds.{least_cycle, most_cycle, least_speed, most_speed}
 use Rattle.artery_model.specs.Faults.{Fault, first_fault, unless, each_numbered}
@@ -18,8 +22,8 @@ use Rattle.description_reader.specs.Checks.{meets, value_fault, item_fault, item
 use Rattle.description_reader.specs.Judgement.{in_table, key_fault, stage_tests, facts_of, value_tests}
 use Rattle.description_reader.specs.KeyTable.{alone, items, most_travel, keys_of}
 use Rattle.description_reader.specs.Streets.{u32_or_zero}
-use Rattle.description_reader.specs.Typed.{IsMeasured, measure_of, numbers_at, patterns_at, plan_in, typed_in, IsTyped, plan_fault}
-use Rattle.description_reader.specs.declared.demand.Demand.TheVariants.{Anything, Table, Between, Within}
+use Rattle.description_reader.specs.Typed.{IsWritten, IsMeasured, measure_of, numbers_at, patterns_at, plan_in, typed_in, IsTyped, plan_fault}
+use Rattle.description_reader.specs.declared.demand.Demand.TheVariants.{Anything, Table, Between, Within, Written}
 use Rattle.description_reader.specs.declared.judge.Form.TheVariants as form
 use Rattle.description_reader.specs.declared.judge.Stage.TheVariants.{Needed, Types, Ranges}
 use Rattle.description_reader.specs.declared.place.Facts.{Facts}
@@ -27,6 +31,7 @@ use Rattle.description_reader.specs.declared.place.Section.{Section}
 use Rattle.description_reader.specs.declared.place.Section.TheVariants.{Plan, PlanRoot}
 use Rattle.description_reader.proofs.CanonicalValues.{u32_back}
 use Rattle.description_reader.proofs.CanonicalTests.{none_of, both_of}
+use Rattle.description_reader.proofs.Written.{number_short}
 
 -- ---- one value
 there : (o : Option Data) (k : Kind) (place : List ℕ) → unless (is_some o) k place ≡ None → is_some o ≡ true
@@ -41,6 +46,17 @@ number_there : (parts low high : ℤ) (o : Option Data) → is_some o ≡ true �
 number_there parts low high None h e = absurd (true≢false (sym h))
 number_there parts low high (Some d) h e = quantity_of low high (number_in d) e
 
+-- between the two numbers, and as fine as it can be written
+written_of : (low high : ℤ) (d : Data) → (at_most (whole low) (number_in d) && at_most (number_in d) (whole high)) ≡ true → IsWritten low high (number_in d)
+unfolding whole
+written_of low high d e =
+    let both = both_of (at_most (whole low) (number_in d)) (at_most (number_in d) (whole high)) e in
+    record {
+      den = number_short d;
+      least = omega (arith, ints, (le_true (whole low) (number_in d) (sym both.0)).cross);
+      most = omega (arith, ints, (le_true (number_in d) (whole high) (sym both.1)).cross);
+    }
+
 -- ---- each item of an array
 module _ (parts : ℤ) (section : Section) (name : List ℕ) where
   all_within : (low high : ℤ) (i : ℕ) (ds : List Data) → first_fault (each_numbered (item_fault OutOfRange parts section (Within low high) name) i ds) ≡ None
@@ -49,6 +65,13 @@ module _ (parts : ℤ) (section : Section) (name : List ℕ) where
   all_within low high i (d ∷ ds) e =
       let both = each_none (item_fault OutOfRange parts section (Within low high) name i d ∷ each_numbered (item_fault OutOfRange parts section (Within low high) name) (i + 1) ds) e in
       All-cons (IsQuantity low high) (number_in d) (map number_in ds) (quantity_of low high (number_in d) (passes_of _ _ _ both.0)) (all_within low high (i + 1) ds (none_of _ both.1))
+
+  all_written : (low high : ℤ) (i : ℕ) (ds : List Data) → first_fault (each_numbered (item_fault OutOfRange parts section (Written low high) name) i ds) ≡ None
+      → All (IsWritten low high) (map number_in ds)
+  all_written low high i [] e = All-nil _
+  all_written low high i (d ∷ ds) e =
+      let both = each_none (item_fault OutOfRange parts section (Written low high) name i d ∷ each_numbered (item_fault OutOfRange parts section (Written low high) name) (i + 1) ds) e in
+      All-cons (IsWritten low high) (number_in d) (map number_in ds) (written_of low high d (passes_of _ _ _ both.0)) (all_written low high (i + 1) ds (none_of _ both.1))
 
 -- ---- where a file has a key
 where_true : (b : Bool) (f : Option Fault) → b ≡ true → (if b then f else None) ≡ None → f ≡ None
@@ -72,7 +95,8 @@ module _ (parts : ℤ) (section : Section) (name : List ℕ) where
   all_between i [] e = All-nil _
   all_between i (d ∷ ds) e =
       let both = each_none (item_fault OutOfRange parts section (Between (pos 1) (pos 4)) name i d ∷ each_numbered (item_fault OutOfRange parts section (Between (pos 1) (pos 4)) name) (i + 1) ds) e in
-      All-cons (λ n. (1 ≤ n) × (n ≤ 4)) (u32_or_zero (integer_in d)) (map (λ v. u32_or_zero (integer_in v)) ds) (between (integer_in d) (passes_of _ _ _ both.0)) (all_between (i + 1) ds (none_of _ both.1))
+      All-cons (λ n. (1 ≤ n) × (n ≤ 4)) (u32_or_zero (integer_in d)) (map (λ v. u32_or_zero (integer_in v)) ds) (between (integer_in d) (passes_of _ _ _ both.0))
+      (all_between (i + 1) ds (none_of _ both.1))
 
 -- ---- the keys of a plan
 module _ (parts : ℤ) (section : Section) (d : Data) where
@@ -81,6 +105,12 @@ module _ (parts : ℤ) (section : Section) (d : Data) where
   numbers_within name low high e =
       let tests = each_none (value_fault OutOfRange parts section Anything name d ∷ items_fault OutOfRange parts section (Within low high) name d ∷ []) e in
       all_within parts section name low high 1 (items_in (at_key d name)) tests.1.0
+
+  numbers_written : (name : List ℕ) (low high : ℤ) → demands_fault OutOfRange parts section (items (Written low high)) name d ≡ None → All (IsWritten low high) (numbers_at d name)
+  unfolding value_fault items_fault
+  numbers_written name low high e =
+      let tests = each_none (value_fault OutOfRange parts section Anything name d ∷ items_fault OutOfRange parts section (Written low high) name d ∷ []) e in
+      all_written parts section name low high 1 (items_in (at_key d name)) tests.1.0
 
   patterns_within : (name : List ℕ) → demands_fault OutOfRange parts section (items (Between (pos 1) (pos 4))) name d ≡ None → All (λ n. (1 ≤ n) × (n ≤ 4)) (patterns_at d name)
   unfolding value_fault items_fault
@@ -97,10 +127,10 @@ module _ (parts : ℤ) (section : Section) (d : Data) where
 
   -- speeds where no times of travel are given, and these where they are
   measured_within : (timed : Bool) (speed travel : List ℕ)
-      → (if not timed then demands_fault OutOfRange parts section (items (Within least_speed most_speed)) speed d else None) ≡ None
+      → (if not timed then demands_fault OutOfRange parts section (items (Written least_speed most_speed)) speed d else None) ≡ None
       → (if timed then demands_fault OutOfRange parts section (items (Within (pos 0) most_travel)) travel d else None) ≡ None
       → All (IsMeasured (measure_of timed)) (numbers_at d (if timed then travel else speed))
-  measured_within false speed travel e f = numbers_within speed least_speed most_speed e
+  measured_within false speed travel e f = numbers_written speed least_speed most_speed e
   measured_within true speed travel e f = numbers_within travel (pos 0) most_travel f
 
 plan_within : (facts : Facts) (d : Data) → in_table Needed facts Plan d ≡ None → in_table Ranges facts Plan d ≡ None → is_some (as_table d) ≡ true

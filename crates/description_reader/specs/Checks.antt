@@ -3,10 +3,11 @@ use Rattle.std.specs.Prelude.{◌&&◌, ◌||◌, ℕ, List, [], ◌∷◌, leng
 use Rattle.toml.specs.Data.{Data, get, as_integer, as_bool, as_str, as_array, as_table}
 use Rattle.rational_theory.specs.Rational.{whole}
 use Rattle.artery_model.specs.Faults.{Fault, first_fault, unless, each_numbered}
-use Rattle.artery_model.specs.Limits.{is_name, in_range, is_text, within}
+use Rattle.artery_model.specs.Limits.{at_most, is_name, in_range, is_text, within}
 use Rattle.artery_model.specs.declared.kind.Kind.{Kind}
 use Rattle.artery_model.specs.declared.kind.Kind.TheVariants as kind
 use Rattle.description_reader.specs.Quantity.{quantity_in, number_in, integer_in}
+use Rattle.description_reader.specs.References.{reference_named}
 use Rattle.description_reader.specs.Values.{has, at_key, items_in, text_in}
 use Rattle.description_reader.specs.KeyTable.{both}
 use Rattle.description_reader.specs.Places.{key_place, item_place}
@@ -29,11 +30,12 @@ meets parts demand.Text d = is_some (as_str d)
 meets parts demand.Quantity d = is_some (as_integer d) || is_some (as_str d)
 meets parts demand.Number d = is_some (quantity_in d)
 meets parts demand.Units d = is_text (text_in d) (codes "metric") || is_text (text_in d) (codes "english")
-meets parts demand.Reference d = is_text (text_in d) (codes "red") || is_text (text_in d) (codes "green")
+meets parts demand.Reference d = is_some (reference_named (text_in d))
 meets parts demand.Name d = is_name (text_in d)
 meets parts (demand.Between least most) d = int_le least (integer_in d) && int_le (integer_in d) most
 meets parts (demand.BelowParts least) d = int_le least (integer_in d) && int_lt (integer_in d) parts
 meets parts (demand.Within least most) d = within (whole least) (whole most) (number_in d)
+meets parts (demand.Written least most) d = at_most (whole least) (number_in d) && at_most (number_in d) (whole most)
 
 -- where a quantity stands, a text must be of the grammar of quantities
 abbrev pub number_of : Demand → Demand

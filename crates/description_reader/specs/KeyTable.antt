@@ -3,7 +3,7 @@
 use Rattle.std.specs.Prelude.{ℕ, List, [], ◌∷◌, Bool, true, not, ℤ, pos, codes}
 use Rattle.artery_model.specs.Bounds.{first_version, second_version, least_signals, most_signals, most_first_signals, least_share, most_share, least_parts, most_parts, least_distance, most_distance, least_speed, most_speed, least_cycle, most_cycle, least_change, most_change, least_ratio, most_ratio}
 use Rattle.description_reader.specs.declared.demand.Demand.{Demand}
-use Rattle.description_reader.specs.declared.demand.Demand.TheVariants.{Anything, Table, Array, Length, Integer, Boolean, Text, Quantity, Units, Reference, Name, Between, BelowParts, Within}
+use Rattle.description_reader.specs.declared.demand.Demand.TheVariants.{Anything, Table, Array, Length, Integer, Boolean, Text, Quantity, Units, Reference, Name, Between, BelowParts, Within, Written}
 use Rattle.description_reader.specs.declared.key_table.Demands.{Demands}
 use Rattle.description_reader.specs.declared.key_table.Entry.{Entry}
 use Rattle.description_reader.specs.declared.key_table.Presence.{Presence}
@@ -62,6 +62,10 @@ two_quantities = both (Length 2 2) Quantity
 abbrev pub quantities : Demands
 quantities = both Array Quantity
 
+-- the version of a plan
+abbrev pub plan_version : ℕ
+plan_version = 1
+
 -- the longest time of travel on a link of a plan, in seconds
 abbrev pub most_travel : ℤ
 most_travel = pos 100000
@@ -103,7 +107,7 @@ keys_of (Link i) =
     ∷ key (codes "change_in") NotLast two_quantities (items (Within least_change most_change))
     ∷ []
 keys_of PlanRoot =
-    key (codes "version") Optional (alone Integer) (alone (Between (pos 1) (pos 1)))
+    key (codes "version") Optional (alone Integer) (alone (Between (pos plan_version) (pos plan_version)))
     ∷ key (codes "plan") Needed (alone Table) (alone Anything)
     ∷ []
 keys_of Plan =
@@ -111,8 +115,8 @@ keys_of Plan =
     ∷ key (codes "offset") Needed quantities (items (Within (pos 0) most_cycle))
     ∷ key (codes "reference") Optional (alone Text) (alone Reference)
     ∷ key (codes "patterns") Needed (both Array Integer) (items (Between (pos 1) (pos 4)))
-    ∷ key_when SpeedOut (codes "speed_out") Needed quantities (items (Within least_speed most_speed))
+    ∷ key_when SpeedOut (codes "speed_out") Needed quantities (items (Written least_speed most_speed))
     ∷ key_when TravelOut (codes "travel_out") Needed quantities (items (Within (pos 0) most_travel))
-    ∷ key_when SpeedIn (codes "speed_in") Needed quantities (items (Within least_speed most_speed))
+    ∷ key_when SpeedIn (codes "speed_in") Needed quantities (items (Written least_speed most_speed))
     ∷ key_when TravelIn (codes "travel_in") Needed quantities (items (Within (pos 0) most_travel))
     ∷ []

@@ -11,6 +11,7 @@ pub mod Places
 pub mod Printed
 pub mod Promises
 pub mod Quantity
+pub mod References
 pub mod Streets
 pub mod Typed
 pub mod Values

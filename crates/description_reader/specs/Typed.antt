@@ -1,14 +1,14 @@
 -- A plan as people type it: the cycle, the offsets, the patterns, and of each link and direction how fast it is gone or how long that takes.
-use Rattle.std.specs.Prelude.{◌≡◌, ◌⊎◌, ◌≤◌, ℕ, List, map, All, Bool, Option, pos, codes, if◌then◌else◌}
+use Rattle.std.specs.Prelude.{◌≡◌, ◌⊎◌, ◌≤◌, ◌^◌, ℕ, List, map, All, Bool, Option, unwrap_or, ℤ, pos, ◌*ℤ◌, ◌≤ℤ◌, codes, if◌then◌else◌}
 use Rattle.toml.specs.Data.{Data}
 use Rattle.rational_theory.specs.Rational.{ℚ}
 use Rattle.artery_model.specs.Bounds.{least_cycle, most_cycle, least_speed, most_speed}
 use Rattle.artery_model.specs.Faults.{Fault, first_fault}
-use Rattle.artery_model.specs.Limits.{is_text}
 use Rattle.artery_model.specs.Valid.{IsQuantity}
 use Rattle.progression.specs.declared.parts.Dir.{Dir}
 use Rattle.progression.specs.declared.parts.Dir.TheVariants.{Outbound, Inbound}
 use Rattle.description_reader.specs.Quantity.{number_in, integer_in}
+use Rattle.description_reader.specs.References.{reference_named}
 use Rattle.description_reader.specs.Values.{at_key, items_in, text_in}
 use Rattle.description_reader.specs.KeyTable.{most_travel}
 use Rattle.description_reader.specs.Judgement.{facts_of, value_tests}
@@ -16,7 +16,7 @@ use Rattle.description_reader.specs.Streets.{u32_or_zero}
 use Rattle.description_reader.specs.Described.{IsReadBy, IsRefusedBy}
 use Rattle.description_reader.specs.declared.judge.Form.TheVariants as form
 use Rattle.description_reader.specs.declared.measure.Reference.{Reference}
-use Rattle.description_reader.specs.declared.measure.Reference.TheVariants.{Red, Green}
+use Rattle.description_reader.specs.declared.measure.Reference.TheVariants.{Red}
 use Rattle.description_reader.specs.declared.measure.Measure.{Measure}
 use Rattle.description_reader.specs.declared.measure.Measure.TheVariants.{Speed, Travel}
 
@@ -40,8 +40,14 @@ measured p Outbound = p.out
 measured p Inbound = p.back
 
 -- ---- limits
+-- a number between two whole numbers, as fine as a quantity can be written
+pub record IsWritten (low high : ℤ) (q : ℚ) : Type 0 where
+  pub den : q.den ≤ 10 ^ 18
+  pub least : (low *ℤ pos q.den) ≤ℤ q.num
+  pub most : q.num ≤ℤ (high *ℤ pos q.den)
+
 abbrev pub IsMeasured : Measure → ℚ → Type 0
-IsMeasured Speed q = IsQuantity least_speed most_speed q
+IsMeasured Speed q = IsWritten least_speed most_speed q
 IsMeasured Travel q = IsQuantity (pos 0) most_travel q
 
 -- what the type of a plan keeps
@@ -53,9 +59,9 @@ pub record IsTyped (p : Typed) : Type 0 where
   pub back : All (IsMeasured p.measure_in) p.back
 
 -- ---- the plan that values make
--- any other text than the two is a fault of the plan, and so is no text but where the key is absent
+-- a text that names none is a fault of the plan, and so is no text but where the key is absent
 abbrev pub reference_of : List ℕ → Reference
-reference_of text = if is_text text (codes "green") then Green else Red
+reference_of text = unwrap_or (reference_named text) Red
 
 abbrev pub measure_of : Bool → Measure
 measure_of timed = if timed then Travel else Speed

@@ -4,7 +4,8 @@ ghost use Rattle.std.specs.Prelude.{◌≡◌};
 ghost use Rattle.toml.specs.View.{view};
 ghost use Rattle.description_reader.specs.Checks.{meets};
 
-use crate::quantity::{integer_in, is_quantity, number_in, quantity_in};
+use crate::measure::Reference;
+use crate::quantity::{integer_in, is_between, is_quantity, number_in, quantity_in};
 use crate::values::{items_in, text_in};
 use artery_model::{is_name, is_within};
 use toml::Value;
@@ -26,7 +27,7 @@ pub enum Demand {
     Number,
     /// `metric` or `english`.
     Units,
-    /// `red` or `green`.
+    /// A word for the moment from which offsets count.
     Reference,
     /// A text that is neither empty nor long, without control characters.
     Name,
@@ -36,6 +37,8 @@ pub enum Demand {
     BelowParts(i64),
     /// A quantity from the first to the second, of a bounded numerator and denominator.
     Within(i64, i64),
+    /// A quantity from the first to the second, as fine as it can be written.
+    Written(i64, i64),
 }
 
 /// Whether the value is what it must be, where the cycle has this many parts.
@@ -56,10 +59,11 @@ pub fn meets(parts: i64, demand: Demand, value: &Value) -> bool
         Demand::Quantity => is_quantity(value),
         Demand::Number => quantity_in(value).is_some(),
         Demand::Units => text_in(value) == "metric" || text_in(value) == "english",
-        Demand::Reference => text_in(value) == "red" || text_in(value) == "green",
+        Demand::Reference => Reference::named(text_in(value)).is_some(),
         Demand::Name => is_name(text_in(value)),
         Demand::Between(least, most) => least <= integer_in(value) && integer_in(value) <= most,
         Demand::BelowParts(least) => least <= integer_in(value) && integer_in(value) < parts,
         Demand::Within(least, most) => is_within(least, most, number_in(value)),
+        Demand::Written(least, most) => is_between(least, most, number_in(value)),
     }
 }

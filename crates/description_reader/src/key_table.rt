@@ -5,7 +5,7 @@ ghost use Rattle.description_reader.specs.KeyTable.{key_of, keys_of, is_in};
 
 use crate::demand::Demand::{
     self, Anything, Array, BelowParts, Between, Boolean, Integer, Length, Name, Quantity,
-    Reference, Table, Text, Units, Within,
+    Reference, Table, Text, Units, Within, Written,
 };
 use crate::place::{Facts, Section};
 use Presence::{Needed, NotLast, Optional};
@@ -74,6 +74,9 @@ pub struct Entry {
     pub ranges: Demands,
 }
 
+/// The version of a plan.
+pub const PLAN_VERSION: i64 = 1;
+
 /// The longest time of travel on a link of a plan, in seconds.
 pub const MOST_TRAVEL: i64 = 100_000;
 
@@ -136,6 +139,9 @@ const CYCLE: Demand = Within(LEAST_CYCLE, MOST_CYCLE);
 const SHARE: Demand = Within(LEAST_SHARE, MOST_SHARE);
 
 const SPEED: Demand = Within(LEAST_SPEED, MOST_SPEED);
+
+/// The speed of a plan, which a report may have printed.
+const EXACT_SPEED: Demand = Written(LEAST_SPEED, MOST_SPEED);
 
 const CHANGE: Demand = Within(LEAST_CHANGE, MOST_CHANGE);
 
@@ -226,7 +232,12 @@ const LINK: [Entry; 6] = [
 
 /// The keys of the root of a plan.
 const PLAN_ROOT: [Entry; 2] = [
-    key!("version", Optional, alone!(Integer), alone!(Between(1, 1))),
+    key!(
+        "version",
+        Optional,
+        alone!(Integer),
+        alone!(Between(PLAN_VERSION, PLAN_VERSION))
+    ),
     key!("plan", Needed, alone!(Table), alone!(Anything)),
 ];
 
@@ -241,9 +252,15 @@ const PLAN: [Entry; 8] = [
         both!(Array, Integer),
         items!(Between(1, 4))
     ),
-    key_when!(SpeedOut, "speed_out", Needed, QUANTITIES, items!(SPEED)),
+    key_when!(
+        SpeedOut,
+        "speed_out",
+        Needed,
+        QUANTITIES,
+        items!(EXACT_SPEED)
+    ),
     key_when!(TravelOut, "travel_out", Needed, QUANTITIES, items!(TRAVEL)),
-    key_when!(SpeedIn, "speed_in", Needed, QUANTITIES, items!(SPEED)),
+    key_when!(SpeedIn, "speed_in", Needed, QUANTITIES, items!(EXACT_SPEED)),
     key_when!(TravelIn, "travel_in", Needed, QUANTITIES, items!(TRAVEL)),
 ];
 

@@ -1,7 +1,9 @@
 //! Numbers in a description: TOML integers, and texts of the grammar of quantities.
 
-ghost use Rattle.std.specs.Prelude.{◌≡◌, ◌||◌, is_some};
+ghost use Rattle.std.specs.Prelude.{◌≡◌, ◌||◌, ◌&&◌, is_some};
 ghost use Rattle.toml.specs.{Data.{as_integer, as_str}, View.{view}};
+ghost use Rattle.rational_theory.specs.Rational.{whole};
+ghost use Rattle.artery_model.specs.Limits.{at_most};
 ghost use Rattle.description_reader.specs.Quantity.{quantity_in, number_in, integer_in};
 
 use narrow_fraction::Frac;
@@ -34,6 +36,13 @@ pub fn number_in(value: &Value) -> Frac
     ensures { result ≡ number_in (view value.now) }
 {
     quantity_in(value).unwrap_or(Frac::whole(0))
+}
+
+/// Whether a number lies between two whole numbers, both among them.
+pub fn is_between(low: i64, high: i64, number: Frac) -> bool
+    ensures { result ≡ (at_most (whole low) number && at_most number (whole high)) }
+{
+    Frac::whole(low) <= number && number <= Frac::whole(high)
 }
 
 /// The number of an integer, 0 of any other value.

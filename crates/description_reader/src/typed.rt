@@ -108,11 +108,7 @@ impl TypedPlan {
 fn reference_of(text: &str) -> Reference
     ensures { result ≡ reference_of text.now }
 {
-    if text == "green" {
-        Reference::Green
-    } else {
-        Reference::Red
-    }
+    Reference::named(text).unwrap_or(Reference::Red)
 }
 
 fn measure_of(timed: bool) -> Measure

@@ -1,5 +1,6 @@
 -- A band leaves and enters a link exactly where the pieces that are drawn do.
-use Rattle.std.proofs.Common.{◌≡◌, ℕ, suc, ℤ, pos, negsuc, ◌+ℤ◌, ◌-ℤ◌, ◌*ℤ◌, ◌≤ℤ◌, ◌+◌, ◌-◌, ◌*◌, ◌/◌, ◌<◌, ◌≤◌, Bool, true, false, not, ◌&&◌, nat_le, IsTrue, true≢false, refl, sym, ap, subst, ◌∙◌, arith, inl, inr, mul-pos}
+use Rattle.std.proofs.Common.{◌≡◌, ℕ, suc, ℤ, pos, negsuc, ◌+ℤ◌, ◌-ℤ◌, ◌*ℤ◌, ◌≤ℤ◌, ◌+◌, ◌-◌, ◌*◌, ◌/◌, ◌<◌, ◌≤◌, Bool, true, false, not, ◌&&◌, nat_le}
+use Rattle.std.proofs.Common.{IsTrue, true≢false, refl, sym, ap, subst, ◌∙◌, arith, inl, inr, mul-pos}
 use Rattle.std.specs.Prelude.{◌<ℤ◌, ◌⊎◌, ◌↔◌, int_le, int_lt}
 use Rattle.std.proofs.lemmas.Int.{ints}
 use Rattle.std.proofs.lemmas.Bool.{cases_lt, leb-true, le-leb}

@@ -1,6 +1,6 @@
 //! Where a line steps at a signal, so that a queue clears.
 
-ghost use Rattle.std.specs.Prelude.{◌≡◌, ◌+◌, ◌<◌, ◌≤◌, ◌^◌, IfOk, length, pos, unsigned_abs};
+ghost use Rattle.std.specs.Prelude.{◌≡◌, ◌+◌, ◌<◌, ◌≤◌, ◌^◌, IfOk, length, pos};
 ghost use Rattle.progression.specs.{Street.{count}, Lines.{stop}};
 ghost use Rattle.diagram_draw.specs.Frames.{IsFrame};
 ghost use Rattle.diagram_draw.specs.Steps.{has_step, step_ticks, step_moment, step_begin, step_end, beside, step_level, mark_level, step_line, steps_at, signal_steps, steps};

@@ -1,7 +1,7 @@
 //! How wide texts are.
 
-ghost use Rattle.std.specs.Prelude.{◌≡◌, ◌+◌, ◌*◌, ◌<◌, ◌≤◌, ◌^◌, length};
-ghost use Rattle.diagram_draw.specs.Widths.{is_among, byte_width, text_width, fitting};
+ghost use Rattle.std.specs.Prelude.{◌≡◌, ◌*◌, ◌<◌, ◌≤◌, ◌^◌};
+ghost use Rattle.diagram_draw.specs.Widths.{byte_width, text_width, fitting};
 
 /// The usual sizes of letters: of the street's name, of a plan's title, of what is measured and of the signals' names.
 pub const TITLE_SIZE: u32 = 330;

@@ -41,7 +41,8 @@ weighed_one g name by = one_tested g name by (eq_by_cmp cmp_ℚ by (whole (pos 0
 weighed_below : (g : RowId → ℚ) (names : List RowId) (f : ℕ → ℚ) (n : ℕ) → weighed g (multipliers_below names f n) ≡ total (λ r. f r *ℚ g (name_in names r)) n
 unfolding multipliers_below
 weighed_below g names f zero = refl
-weighed_below g names f (suc n) = weighed-append g (multipliers_below names f n) (multiplier (name_in names n) (f n)) ∙ ap₂ (λ s t. s +ℚ t) (weighed_below g names f n) (weighed_one g (name_in names n) (f n))
+weighed_below g names f (suc n) = weighed-append g (multipliers_below names f n) (multiplier (name_in names n) (f n))
+    ∙ ap₂ (λ s t. s +ℚ t) (weighed_below g names f n) (weighed_one g (name_in names n) (f n))
 
 -- the sum of the rows, coefficient by coefficient, and its bound
 sum_coef : (read : RowId → Row) (ws : List Weight) (c : ℕ) → coef_at (sum_of read ws) c ≡ weighed (λ n. coef_at (read n) c) ws
@@ -58,12 +59,14 @@ read_at : (read : RowId → Row) (names : List RowId) (r : ℕ) → r < length n
 read_at read names r h = get_or-map read names r unnamed (record { coefs = []; bound = whole (pos 0) }) h
 
 -- the sum's coefficient of a column is the weighted sum of the rows' coefficients
-below_coef : (read : RowId → Row) (names : List RowId) (f : ℕ → ℚ) (n c : ℕ) → n ≤ length names → coef_at (sum_of read (multipliers_below names f n)) c ≡ total (λ r. f r *ℚ coef_at (row_at (map read names) r) c) n
+below_coef : (read : RowId → Row) (names : List RowId) (f : ℕ → ℚ) (n c : ℕ) → n ≤ length names → coef_at (sum_of read (multipliers_below names f n))
+    c ≡ total (λ r. f r *ℚ coef_at (row_at (map read names) r) c) n
 below_coef read names f n c h =
     sum_coef read (multipliers_below names f n) c ∙ weighed_below (λ m. coef_at (read m) c) names f n
     ∙ total_same _ _ n (λ r l. ap (λ (t : Row). f r *ℚ coef_at t c) (sym (read_at read names r (omega arith))))
 
-below_bound : (read : RowId → Row) (names : List RowId) (f : ℕ → ℚ) (n : ℕ) → n ≤ length names → (sum_of read (multipliers_below names f n)).bound ≡ total (λ r. f r *ℚ (row_at (map read names) r).bound) n
+below_bound : (read : RowId → Row) (names : List RowId) (f : ℕ → ℚ) (n : ℕ) → n ≤ length names → (sum_of read (multipliers_below names f n)).bound ≡
+    total (λ r. f r *ℚ (row_at (map read names) r).bound) n
 below_bound read names f n h =
     sum_bound read (multipliers_below names f n) ∙ weighed_below (λ m. (read m).bound) names f n
     ∙ total_same _ _ n (λ r l. ap (λ (t : Row). f r *ℚ t.bound) (sym (read_at read names r (omega arith))))
@@ -100,18 +103,21 @@ shared_list t u s =
 
 pub goal_leaf_covers : (t : NamedTableau) → LeafCovers t (goal_multipliers t)
 goal_leaf_covers t = record {
-  not_negative = λ u s d. subst (λ (ws : List Weight). AllNonNegative (map (λ w. w.by) ws)) (sym (shared_list t u s)) (below_low t.names (λ r. goal_weight u (width u + r)) (height u) (λ r. goal_weight_low u (width u + r) d));
+  not_negative = λ u s d. subst (λ (ws : List Weight). AllNonNegative (map (λ w. w.by) ws)) (sym (shared_list t u s))
+      (below_low t.names (λ r. goal_weight u (width u + r)) (height u) (λ r. goal_weight_low u (width u + r) d));
   covers = λ u read goal s d k.
       let n : height u ≤ length t.names = let e = s.count in omega arith in
       subst (λ (ws : List Weight). CoversWith goal (width u) (goal_bound u) (sum_of read ws)) (sym (shared_list t u s))
       (record {
         coefs = λ c h.
-            subst (λ x. get_or goal c (whole (pos 0)) ≤ℚ x) (sym (below_coef read t.names (λ r. goal_weight u (width u + r)) (height u) c n)) (goal_covers u (system_of (map read t.names) goal) c d k.stands h);
+            subst (λ x. get_or goal c (whole (pos 0)) ≤ℚ x) (sym (below_coef read t.names (λ r. goal_weight u (width u + r)) (height u) c n))
+            (goal_covers u (system_of (map read t.names) goal) c d k.stands h);
         bound = below_bound read t.names (λ r. goal_weight u (width u + r)) (height u) n ∙ goal_weighed_bound u (system_of (map read t.names) goal) d k.stands;
       });
 }
 
-pub row_leaf_refutes : (t : NamedTableau) (i : ℕ) → length t.names ≡ height t.table → i < height t.table → bound t.table i <ℚ whole (pos 0) → ((k : ℕ) → k < width t.table → whole (pos 0) ≤ℚ cell t.table i k)
+pub row_leaf_refutes : (t : NamedTableau) (i : ℕ) → length t.names ≡ height t.table → i < height t.table → bound t.table i <ℚ whole (pos 0)
+    → ((k : ℕ) → k < width t.table → whole (pos 0) ≤ℚ cell t.table i k)
     → LeafRefutes t (row_multipliers t i)
 row_leaf_refutes t i e h b n = record {
   not_negative = below_low t.names (λ r. row_weight t.table i (width t.table + r)) (length t.names) (λ r. row_weight_low t.table i (width t.table + r) n);
@@ -122,7 +128,8 @@ row_leaf_refutes t i e h b n = record {
             subst (λ x. whole (pos 0) ≤ℚ x) (sym (below_coef read t.names f (length t.names) c (omega arith) ∙ ap (total (λ r. f r *ℚ coef_at (row_at (map read t.names) r) c)) e))
             (row_refutes t.table (system_of (map read t.names) goal) i c d k.stands h n l);
         bound = subst (λ x. x <ℚ whole (pos 0))
-            (sym (below_bound read t.names f (length t.names) (omega arith) ∙ ap (total (λ r. f r *ℚ (row_at (map read t.names) r).bound)) e ∙ row_weighed_bound t.table (system_of (map read t.names) goal) i d k.stands h)) b;
+            (sym (below_bound read t.names f (length t.names) (omega arith) ∙ ap (total (λ r. f r *ℚ (row_at (map read t.names) r).bound)) e
+            ∙ row_weighed_bound t.table (system_of (map read t.names) goal) i d k.stands h)) b;
       };
 }
 

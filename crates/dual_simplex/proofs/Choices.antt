@@ -62,7 +62,8 @@ pub next_place : (t : Tableau) (r k : ℕ) (x g : ℚ) (o : Option Chosen) (b : 
 next_place t r k x g o b s e f i h =
     let d = is_ratio t r b.place b.cell b.goal w.cell_is w.goal_is in
     let a = not_refused t r k x g e in
-    let c : best_step (λ k. is_negative (cell t r k)) (place_before t r) k (place_of o) ≡ cond s (Some k) (Some b.place) = rw f (step_with t r k b.place x g _ _ s e (is_ratio t r k x g e.entry e.goal) d h) in
+    let c : best_step (λ k. is_negative (cell t r k)) (place_before t r) k (place_of o) ≡ cond s (Some k) (Some b.place) =
+    rw f (step_with t r k b.place x g _ _ s e (is_ratio t r k x g e.entry e.goal) d h) in
     ap Ok (chosen s) ∙ sym (ap₂ (λ q s. attempt q (with_cells t r s)) a c)
   where
     w : IsChosen t r b
@@ -73,7 +74,8 @@ next_place t r k x g o b s e f i h =
     chosen false = cells_of t r b.place b.cell b.goal w.cell_is w.goal_is
 
 -- a chosen place, where the best so far is one
-pub kept_place : (t : Tableau) (r n : ℕ) (o : Option Chosen) (b : Option ℕ) → OnBest (λ k. is_negative (cell t r k)) (place_before t r) n b → n ≤ width t → first_below (ratio_at t r) n ≡ None → o ≡ with_cells t r b
+pub kept_place : (t : Tableau) (r n : ℕ) (o : Option Chosen) (b : Option ℕ) → OnBest (λ k. is_negative (cell t r k)) (place_before t r) n b → n ≤ width t
+    → first_below (ratio_at t r) n ≡ None → o ≡ with_cells t r b
     → IfSome o (IsChosen t r)
 kept_place t r n o None h l p e = rw e tt
 kept_place t r n o (Some j) h l p e = rw e (record { place = (let w = h.within in omega arith); goal_is = refl; cell_is = refl; negative = h.passes; passed = none_each (ratio_at t r) n p j h.within })
@@ -86,10 +88,12 @@ place_with t r (Some j) = refl
 pub chosen_at : (t : Tableau) (r : ℕ) (o : Option Chosen) (b : Chosen) → o ≡ Some b → o ≡ with_cells t r (chosen_place t r) → Some b.place ≡ chosen_place t r
 chosen_at t r o b e f = ap place_of (sym e ∙ f) ∙ place_with t r (chosen_place t r)
 
-best_next : (t : Tableau) (r k : ℕ) → best (λ k. is_negative (cell t r k)) (place_before t r) (k + 1) ≡ best_step (λ k. is_negative (cell t r k)) (place_before t r) k (best (λ k. is_negative (cell t r k)) (place_before t r) k)
+best_next : (t : Tableau) (r k : ℕ) → best (λ k. is_negative (cell t r k)) (place_before t r) (k + 1) ≡ best_step (λ k. is_negative (cell t r k))
+    (place_before t r) k (best (λ k. is_negative (cell t r k)) (place_before t r) k)
 best_next t r k = rw add-one refl
 
-pub place_next : (t : Tableau) (r k : ℕ) (o u : Option Chosen) → first_below (ratio_at t r) k ≡ None → o ≡ with_cells t r (best (λ k. is_negative (cell t r k)) (place_before t r) k) → ratio_at t r k ≡ None
+pub place_next : (t : Tableau) (r k : ℕ) (o u : Option Chosen) → first_below (ratio_at t r) k ≡ None → o ≡ with_cells t r (best (λ k. is_negative (cell t r k)) (place_before t r) k)
+    → ratio_at t r k ≡ None
     → u ≡ with_cells t r (best_step (λ k. is_negative (cell t r k)) (place_before t r) k (place_of o))
     → (first_below (ratio_at t r) (k + 1) ≡ None) × (u ≡ with_cells t r (best (λ k. is_negative (cell t r k)) (place_before t r) (k + 1)))
 place_next t r k o u p e q f = (

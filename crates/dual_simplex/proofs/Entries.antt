@@ -55,7 +55,8 @@ pub record Looking (t : Tableau) (r index : ℕ) (o : Option Chosen) : Type 0 wh
 pub looking_none : (t : Tableau) (r : ℕ) → Looking t r 0 None
 looking_none t r = record { at = 0; high = omega arith; count = refl; passed = refl; chosen = refl }
 
-pub looking_passed : (t : Tableau) (r index : ℕ) (o : Option Chosen) (p : ℕ) → (l : Looking t r index o) → l.at ≤ p → ((m : ℕ) → l.at ≤ m → m < p → cell t r m ≡ whole (pos 0)) → first_below (ratio_at t r) p ≡ None
+pub looking_passed : (t : Tableau) (r index : ℕ) (o : Option Chosen) (p : ℕ) → (l : Looking t r index o) → l.at ≤ p → ((m : ℕ) → l.at ≤ m → m < p → cell t r m ≡ whole (pos 0))
+    → first_below (ratio_at t r) p ≡ None
 looking_passed t r index o p l h z = pass_none (ratio_at t r) l.at p h l.passed (λ m a b. idle_ratio t r m (z m a b))
 
 pub looking_chosen : (t : Tableau) (r index : ℕ) (o : Option Chosen) (p : ℕ) → (l : Looking t r index o) → l.at ≤ p → ((m : ℕ) → l.at ≤ m → m < p → cell t r m ≡ whole (pos 0))

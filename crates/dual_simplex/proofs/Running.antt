@@ -35,7 +35,18 @@ pub record Running (s : NamedTableau) (p : ℕ) (m : Meter) (u : NamedTableau) (
 
 pub running_none : (s : NamedTableau) (p : ℕ) (m : Meter) → IsDual s.table → p < 2 ^ 64 → m.spent < 2 ^ 64 → IsWithin m.spent m.limit → Running s p m s p m
 unfolding after
-running_none s p m d h k w = record { made = 0; goes_on = λ i l. absurd (omega arith); table = refl; dual = d; meter = metered_none m k; pivots = omega arith; within = w; start = d; left = omega arith }
+running_none s p m d h k w = record {
+  made = 0;
+  goes_on = λ i l. absurd (omega arith);
+  table = refl;
+  dual = d;
+  meter = metered_none m k;
+  pivots =
+      omega arith;
+  within = w;
+  start = d;
+  left = omega arith;
+}
 
 pivoted_next : (t : Tableau) (r j : ℕ) → move t ≡ pivoted r j → next t ≡ exchange r j t
 pivoted_next t r j e = next_is t ∙ ap (λ m. made m t) e
@@ -50,7 +61,8 @@ not_out true true e h = absurd (true≢false e)
 not_out true false e h = absurd (true≢false (sym h))
 not_out false b e h = refl
 
-pub running_next : (s : NamedTableau) (p : ℕ) (m : Meter) (u v : NamedTableau) (q r : ℕ) (n k : Meter) (i j : ℕ) → Running s p m u q n → (is_out n && is_pivot (move u.table)) ≡ false → step_of u.table ≡ steps.Pivoted i j
+pub running_next : (s : NamedTableau) (p : ℕ) (m : Meter) (u v : NamedTableau) (q r : ℕ) (n k : Meter) (i j : ℕ) → Running s p m u q n
+    → (is_out n && is_pivot (move u.table)) ≡ false → step_of u.table ≡ steps.Pivoted i j
     → v ≡ record { table = exchange i j u.table; names = u.names; spent = u.spent } → r ≡ min (q + 1) (2 ^ 64 - 1) → k.spent ≡ capped (n.spent + 1) → k.limit ≡ n.limit → Running s p m v r k
 unfolding after
 running_next s p m u v q r n k i j a b e f g h l =
@@ -69,7 +81,8 @@ running_next s p m u v q r n k i j a b e f g h l =
       dual = subst IsDual (sym t) (dual_next u.table a.dual);
       meter = metered_next m n k a.made a.meter h l;
       pivots = omega arith;
-      within = subst (λ o. IsWithin k.spent o) (sym l) (within_next n.spent k.spent n.limit (below_limit n.spent n.limit (not_out (is_out n) (is_pivot (move u.table)) b (ap is_pivot moves)) a.within) h);
+      within = subst (λ o. IsWithin k.spent o) (sym l)
+          (within_next n.spent k.spent n.limit (below_limit n.spent n.limit (not_out (is_out n) (is_pivot (move u.table)) b (ap is_pivot moves)) a.within) h);
       start = a.start;
       left = omega (arith, a.left, steps_fall u.table a.dual (ap is_pivot moves), ap steps_to_end t);
     }
@@ -81,7 +94,8 @@ running_next s p m u v q r n k i j a b e f g h l =
     step x (inl y) z = rw y z
     step x (inr y) z = a.goes_on x y
 
-pub running_falls : (u v : NamedTableau) (i j : ℕ) → IsDual u.table → step_of u.table ≡ steps.Pivoted i j → v ≡ record { table = exchange i j u.table; names = u.names; spent = u.spent } → steps_to_end v.table < steps_to_end u.table
+pub running_falls : (u v : NamedTableau) (i j : ℕ) → IsDual u.table → step_of u.table ≡ steps.Pivoted i j → v ≡ record { table = exchange i j u.table; names = u.names; spent = u.spent }
+    → steps_to_end v.table < steps_to_end u.table
 running_falls u v i j d e f =
     let moves : move u.table ≡ pivoted i j = subst (λ (x : Step). Agrees x (move u.table)) e (agrees u.table) in
     let t : v.table ≡ next u.table = ap (λ (x : NamedTableau). x.table) f ∙ sym (pivoted_next u.table i j moves) in
@@ -91,14 +105,16 @@ running_falls u v i j d e f =
 
 -- ---- the ends
 -- no set of basic variables came twice, and there are fewer pivots than such sets
-made_apart : (s : NamedTableau) (p : ℕ) (m : Meter) (u : NamedTableau) (q : ℕ) (n : Meter) → (a : Running s p m u q n) → (i j : ℕ) → i < j → j ≤ a.made → HaveSameBasics (after s.table i) (after s.table j) → ⊥
+made_apart : (s : NamedTableau) (p : ℕ) (m : Meter) (u : NamedTableau) (q : ℕ) (n : Meter) → (a : Running s p m u q n) → (i j : ℕ) → i < j → j ≤ a.made
+    → HaveSameBasics (after s.table i) (after s.table j) → ⊥
 made_apart s p m u q n a i j h l same = let left = a.left in (steps_end s.table a.start).apart i j h (omega arith) same
 
 made_few : (s : NamedTableau) (p : ℕ) (m : Meter) (u : NamedTableau) (q : ℕ) (n : Meter) → (a : Running s p m u q n) → a.made < 2 ^ (height s.table + width s.table)
 made_few s p m u q n a = omega (arith, a.left, (steps_end s.table a.start).few)
 
 -- work is out
-pub stopped : (s : NamedTableau) (p : ℕ) (m : Meter) (u : NamedTableau) (q : ℕ) (n : Meter) → (a : Running s p m u q n) → (is_out n && is_pivot (move u.table)) ≡ true → Solved WorkOut s u m n p q a.made
+pub stopped : (s : NamedTableau) (p : ℕ) (m : Meter) (u : NamedTableau) (q : ℕ) (n : Meter) → (a : Running s p m u q n) → (is_out n && is_pivot (move u.table)) ≡ true
+    → Solved WorkOut s u m n p q a.made
 unfolding end_at
 stopped s p m u q n a b =
     let here : end_at u.table n ≡ Some WorkOut = ap (λ c. cond c (Some WorkOut) (end_by_step (step_of u.table))) b in
@@ -113,7 +129,8 @@ stopped s p m u q n a b =
     }
 
 -- the step is an end
-pub ended : (s : NamedTableau) (p : ℕ) (m : Meter) (u v : NamedTableau) (q : ℕ) (n : Meter) (x : Step) (e : NodeEnd) → (a : Running s p m u q n) → (is_out n && is_pivot (move u.table)) ≡ false → step_of u.table ≡ x → end_by_step x ≡ Some e
+pub ended : (s : NamedTableau) (p : ℕ) (m : Meter) (u v : NamedTableau) (q : ℕ) (n : Meter) (x : Step) (e : NodeEnd) → (a : Running s p m u q n)
+    → (is_out n && is_pivot (move u.table)) ≡ false → step_of u.table ≡ x → end_by_step x ≡ Some e
     → IsAfterEnd e u v → Solved e s v m n p q a.made
 unfolding end_at
 ended s p m u v q n x e a b f g h =

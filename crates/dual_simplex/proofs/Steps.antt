@@ -25,7 +25,8 @@ pub step_pivoted : (t : Tableau) (r j : ℕ) → Some r ≡ chosen_row t → rat
 unfolding step_of
 step_pivoted t r j e f g h = ap (step_row t) (sym e) ∙ ap (step_ratio t r) f ∙ ap (step_place t r) (sym g) ∙ ap (step_pivot r j) h
 
-pub step_wide : (t : Tableau) (r j : ℕ) (w : WideCell) → Some r ≡ chosen_row t → ratio_refusal t r ≡ None → Some j ≡ chosen_place t r → pivot_refusal r j t.rows t.goal ≡ Some w → step_of t ≡ Wide false w
+pub step_wide : (t : Tableau) (r j : ℕ) (w : WideCell) → Some r ≡ chosen_row t → ratio_refusal t r ≡ None → Some j ≡ chosen_place t r
+    → pivot_refusal r j t.rows t.goal ≡ Some w → step_of t ≡ Wide false w
 unfolding step_of
 step_wide t r j w e f g h = ap (step_row t) (sym e) ∙ ap (step_ratio t r) f ∙ ap (step_place t r) (sym g) ∙ ap (step_pivot r j) h
 

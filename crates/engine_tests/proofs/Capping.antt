@@ -67,7 +67,8 @@ cuts_at cap s (is_empty (inr h) e) p q = absurd (omega (arith, ints))
 cuts_at cap s (is_cut h k e) p q = e
 cuts_at cap s (is_read h k e) p q = absurd (omega (arith, ints))
 
-has_bound : (a : Street) (cap : ℤ) (line : BoxLine) (area : Area) (s : Span) (leaf : Leaf) (bound : ℚ) → line.area ≡ area → IsOnly cap area.loops s → bound ≡ whole s.most → HasBound (capped_rules a cap) line leaf bound
+has_bound : (a : Street) (cap : ℤ) (line : BoxLine) (area : Area) (s : Span) (leaf : Leaf) (bound : ℚ) → line.area ≡ area → IsOnly cap area.loops s
+    → bound ≡ whole s.most → HasBound (capped_rules a cap) line leaf bound
 has_bound a cap line area s leaf bound e f g =
     let here : CoversNumbers cap area.loops bound = λ x p. subst (λ v. whole x ≤ℚ v) (sym g) (whole-≤ℤ x s.most (f.number x p)) in
     record {

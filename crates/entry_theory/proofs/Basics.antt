@@ -63,7 +63,8 @@ names_basics_of t s p =
     record {
       ascending = l.ascending;
       basics = λ v. (
-        λ a. let b = among_found t.basic v (subst (λ u. is_among t.basic u ≡ true) a.holds (l.passes a.at a.within).1) in record { row = b.at; within = subst (λ m. b.at < m) s.basics b.within; is = b.holds },
+        λ a. let b = among_found t.basic v (subst (λ u. is_among t.basic u ≡ true) a.holds (l.passes a.at a.within).1) in
+            record { row = b.at; within = subst (λ m. b.at < m) s.basics b.within; is = b.holds },
         λ b. let e = p.low_rows b.row b.within in let q = b.is in l.has v (omega arith) (omega arith) (among_true t.basic v (record { at = b.row; within = rw s.basics b.within; holds = b.is })),
       );
     }

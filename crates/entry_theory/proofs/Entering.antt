@@ -96,7 +96,12 @@ module _ (vs : List ℕ) (m w n : ℕ) (t : Tableau) (r : ℕ) (e : IsEntering v
   inside_next k b (inl q) = record { row = r; within = rw (height-exchange r (variable_at vs n) t) c.row; is = here ∙ ap (variable_at vs) (sym q) }
   inside_next k b (inr q) =
       let p = e.inside k q b in
-      record { row = p.row; within = rw (height-exchange r (variable_at vs n) t) p.within; is = there p.row (λ f. absurd (let g = ap (basic_at t) f in let h = p.is in let o = own in omega arith)) ∙ p.is }
+      record {
+        row = p.row;
+        within = rw (height-exchange r (variable_at vs n) t) p.within;
+        is =
+            there p.row (λ f. absurd (let g = ap (basic_at t) f in let h = p.is in let o = own in omega arith)) ∙ p.is;
+      }
 
   -- the turn of a column, at a row that it can enter
   pub entering_column : IsEntering vs m w (suc n) (exchange r (variable_at vs n) t)

@@ -39,6 +39,7 @@ least_found f (suc n) k h p = cond_both (f 0) 0 (suc (least (λ k. f (suc k)) n)
     past : f 0 ≡ false → IsLeast (λ k. f (suc k)) n (least (λ k. f (suc k)) n) → IsLeast f (suc n) (suc (least (λ k. f (suc k)) n))
     past e i = record { within = let l = i.within in omega arith; passes = i.passes; before = before (least (λ k. f (suc k)) n) e i.before }
 
-    there : (k : ℕ) → k < suc n → f k ≡ true → f 0 ≡ false → ((i : ℕ) → i < n → f (suc i) ≡ true → IsLeast (λ k. f (suc k)) n (least (λ k. f (suc k)) n)) → IsLeast f (suc n) (suc (least (λ k. f (suc k)) n))
+    there : (k : ℕ) → k < suc n → f k ≡ true → f 0 ≡ false → ((i : ℕ) → i < n → f (suc i) ≡ true → IsLeast (λ k. f (suc k)) n (least (λ k. f (suc k)) n))
+        → IsLeast f (suc n) (suc (least (λ k. f (suc k)) n))
     there zero h p e g = absurd (true≢false (sym p ∙ e))
     there (suc k) h p e g = past e (g k (omega arith) p)

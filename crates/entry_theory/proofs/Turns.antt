@@ -124,7 +124,8 @@ module _ (vs : List ℕ) (u : Tableau) (d : IsDual u) (names : NamesBasics vs u)
   unfolding entry_rows
   found k h c = let q = way k (omega arith) in finds_row vs u d names (height t) (width t) k (entry_after vs t k) q.entering q.forms h c
 
-  tells_next : (k : ℕ) → k < length vs → TellsUsed vs (entry_rows vs t) (height t) (width t) k (entry_after vs t k) → TellsUsed vs (entry_rows vs t) (height t) (width t) (suc k) (entry_after vs t (suc k))
+  tells_next : (k : ℕ) → k < length vs → TellsUsed vs (entry_rows vs t) (height t) (width t) k (entry_after vs t k)
+      → TellsUsed vs (entry_rows vs t) (height t) (width t) (suc k) (entry_after vs t (suc k))
   unfolding entry_after entry_rows
   tells_next k h a = pick (column_or_slack (variable_at vs k) (width t))
     where

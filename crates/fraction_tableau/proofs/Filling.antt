@@ -33,7 +33,8 @@ pub record Filled (f : ℕ → ℚ) (n : ℕ) (d : List Kept) (k made : ℕ) : T
   pub cells : take made d ≡ kept_below f k
   pub fits : (m : ℕ) → m < k → FitsFrac (f m)
 
-pub filled_next : (f : ℕ → ℚ) (n : ℕ) (d new : List Kept) (k made put : ℕ) (x : ℚ) → Filled f n d k made → length new ≡ length d → x ≡ f k → FitsFrac x → put ≡ made + length (kept_at k x) → take put new ≡ take made d ++ kept_at k x → Filled f n new (k + 1) put
+pub filled_next : (f : ℕ → ℚ) (n : ℕ) (d new : List Kept) (k made put : ℕ) (x : ℚ) → Filled f n d k made → length new ≡ length d → x ≡ f k → FitsFrac x
+    → put ≡ made + length (kept_at k x) → take put new ≡ take made d ++ kept_at k x → Filled f n new (k + 1) put
 filled_next f n d new k made put x s h e u p c =
     let o = at_most_one k x in
     let a = s.fewer in

@@ -20,7 +20,8 @@ pub record Keeping (f : ℕ → ℚ) (from place start : ℕ) (old now : List Ke
 pub keeping_none : (f : ℕ → ℚ) (from place i made : ℕ) (old : List Kept) → from ≤ place → i ≡ length (kept_below f from) → made ≤ from → Keeping f from place made old old i made
 keeping_none f from place i made old h c m = record { at = from; after = omega arith; low = h; count = c; fewer = m; kept = refl; cells = λ t a b. b }
 
-pub keeping_room : (f : ℕ → ℚ) (from place start : ℕ) (old now : List Kept) (i made w : ℕ) (ks : List Kept) (k : Kept) → Keeping f from place start old now i made → place ≤ w → w ≡ length old → ks ≡ kept_below f w → k ≡ get_or ks i k → i < length ks → k.place < place
+pub keeping_room : (f : ℕ → ℚ) (from place start : ℕ) (old now : List Kept) (i made w : ℕ) (ks : List Kept) (k : Kept) → Keeping f from place start old now i made
+    → place ≤ w → w ≡ length old → ks ≡ kept_below f w → k ≡ get_or ks i k → i < length ks → k.place < place
     → made < length now
 keeping_room f from place start old now i made w ks k s h n e q l b =
     let a = s.low in
@@ -29,7 +30,8 @@ keeping_room f from place start old now i made w ks k s h n e q l b =
     let y = s.kept in
     omega arith
 
-pub keeping_next : (f : ℕ → ℚ) (from place start : ℕ) (old now : List Kept) (i made w : ℕ) (ks : List Kept) (k : Kept) → Keeping f from place start old now i made → place ≤ w → w ≡ length old → ks ≡ kept_below f w → k ≡ get_or ks i k → i < length ks → k.place < place
+pub keeping_next : (f : ℕ → ℚ) (from place start : ℕ) (old now : List Kept) (i made w : ℕ) (ks : List Kept) (k : Kept) → Keeping f from place start old now i made
+    → place ≤ w → w ≡ length old → ks ≡ kept_below f w → k ≡ get_or ks i k → i < length ks → k.place < place
     → Keeping f from place start old (set now made k) (i + 1) (made + 1)
 keeping_next f from place start old now i made w ks k s h n e q l b =
     let a = s.low in
@@ -57,7 +59,8 @@ pub record IsKeptBefore (f : ℕ → ℚ) (from place start : ℕ) (old now : Li
   pub fewer : made ≤ place
   pub cells : (h : ℕ → ℚ) → ((m : ℕ) → from ≤ m → m < place → h m ≡ f m) → take start old ≡ kept_below h from → take made now ≡ kept_below h place
 
-keeping_zeros : (f : ℕ → ℚ) (from place start : ℕ) (old now : List Kept) (i made : ℕ) → (s : Keeping f from place start old now i made) → ((m : ℕ) → s.at ≤ m → m < place → f m ≡ whole (pos 0)) → IsKeptBefore f from place start old now i made
+keeping_zeros : (f : ℕ → ℚ) (from place start : ℕ) (old now : List Kept) (i made : ℕ) → (s : Keeping f from place start old now i made)
+    → ((m : ℕ) → s.at ≤ m → m < place → f m ≡ whole (pos 0)) → IsKeptBefore f from place start old now i made
 keeping_zeros f from place start old now i made s z =
     let a = s.low in
     let g = s.fewer in
@@ -68,14 +71,16 @@ keeping_zeros f from place start old now i made s z =
       cells = λ t u v. s.cells t u v ∙ sym (zeros_skip t s.at place s.low (λ m c d. u m (omega arith) d ∙ z m c d));
     }
 
-pub keeping_stop : (f : ℕ → ℚ) (from place start : ℕ) (old now : List Kept) (i made w : ℕ) (ks : List Kept) (k : Kept) → Keeping f from place start old now i made → place ≤ w → ks ≡ kept_below f w → k ≡ get_or ks i k → i < length ks → place ≤ k.place
+pub keeping_stop : (f : ℕ → ℚ) (from place start : ℕ) (old now : List Kept) (i made w : ℕ) (ks : List Kept) (k : Kept) → Keeping f from place start old now i made
+    → place ≤ w → ks ≡ kept_below f w → k ≡ get_or ks i k → i < length ks → place ≤ k.place
     → IsKeptBefore f from place start old now i made
 keeping_stop f from place start old now i made w ks k s h e q l b =
     let a = s.low in
     let x = next_in f s.at w i ks k e q (omega arith) s.count l in
     keeping_zeros f from place start old now i made s (λ m c d. x.zeros m c (omega arith))
 
-pub keeping_past : (f : ℕ → ℚ) (from place start : ℕ) (old now : List Kept) (i made w : ℕ) (ks : List Kept) → Keeping f from place start old now i made → place ≤ w → ks ≡ kept_below f w → length ks ≤ i → (i ≡ length ks) × IsKeptBefore f from place start old now i made
+pub keeping_past : (f : ℕ → ℚ) (from place start : ℕ) (old now : List Kept) (i made w : ℕ) (ks : List Kept) → Keeping f from place start old now i made
+    → place ≤ w → ks ≡ kept_below f w → length ks ≤ i → (i ≡ length ks) × IsKeptBefore f from place start old now i made
 keeping_past f from place start old now i made w ks s h e l =
     let a = s.low in
     let c = s.count in
@@ -84,7 +89,8 @@ keeping_past f from place start old now i made w ks s h e l =
     let same : i ≡ length ks = omega arith in
     (same, keeping_zeros f from place start old now i made s (λ m b d. same_count f s.at w (omega arith) (omega arith) m b (omega arith)))
 
-pub keeping_end : (f : ℕ → ℚ) (from place start : ℕ) (old now : List Kept) (i made w : ℕ) (ks : List Kept) → Keeping f from place start old now i made → place ≤ w → ks ≡ kept_below f w → length ks ≤ i → IsKeptBefore f from place start old now (length ks) made
+pub keeping_end : (f : ℕ → ℚ) (from place start : ℕ) (old now : List Kept) (i made w : ℕ) (ks : List Kept) → Keeping f from place start old now i made
+    → place ≤ w → ks ≡ kept_below f w → length ks ≤ i → IsKeptBefore f from place start old now (length ks) made
 keeping_end f from place start old now i made w ks s h e l =
     let r = keeping_past f from place start old now i made w ks s h e l in
     record { count = sym r.0 ∙ r.1.count; fewer = r.1.fewer; cells = r.1.cells }

@@ -1,5 +1,6 @@
 -- Lemmas on the definitions of `KeptCells`.
-use Rattle.std.proofs.Common.{◌≡◌, ℕ, zero, suc, pos, Bool, true, false, cond, eqb, List, [], ◌∷◌, ◌++◌, map, length, get_or, set, take, ◌+◌, ◌-◌, ◌<◌, ◌≤◌, ◌⊎◌, inl, inr, add-one, refl, sym, ◌∙◌, ap, ap₂, subst, arith, length-append}
+use Rattle.std.proofs.Common.{◌≡◌, ℕ, zero, suc, pos, Bool, true, false, cond, eqb, List, [], ◌∷◌, ◌++◌, map, length, get_or, set, take, ◌+◌, ◌-◌}
+use Rattle.std.proofs.Common.{◌<◌, ◌≤◌, ◌⊎◌, inl, inr, add-one, refl, sym, ◌∙◌, ap, ap₂, subst, arith, length-append}
 use Rattle.std.specs.List.{range_with_len}
 use Rattle.std.proofs.lemmas.List.{ext_get_or, get_or_default, get_or-set_same, set-set, get_or-map, get_or_append_left, get_or_push, get_or_past, length_push, length-map, append-nil}
 use Rattle.std.proofs.lemmas.List.FromFn.{length-range_with_len, get_or-range_with_len}
@@ -122,7 +123,8 @@ next_kept f n (suc w) i d h e l = pick (last_or_before n w h) (zero_or_not (f w)
         rw (get_or_push (kept_below f w) (record { place = w; cell = f w }) d i u)
         (record { after = q; inside = omega arith; is = refl; some = s; zeros = same_count f n w q (omega arith) })
 
-    pick : (n ≡ suc w) ⊎ (n ≤ w) → (f w ≡ whole (pos 0)) ⊎ (f w ≡ whole (pos 0) → ⊥) → (n ≤ w → i < length (kept_below f w) → IsNext f n w (get_or (kept_below f w) i d)) → IsNext f n (suc w) (get_or (kept_below f (suc w)) i d)
+    pick : (n ≡ suc w) ⊎ (n ≤ w) → (f w ≡ whole (pos 0)) ⊎ (f w ≡ whole (pos 0) → ⊥) → (n ≤ w → i < length (kept_below f w) → IsNext f n w (get_or (kept_below f w) i d))
+        → IsNext f n (suc w) (get_or (kept_below f (suc w)) i d)
     pick (inl q) z g = absurd (let x = ap (λ m. length (kept_below f m)) q in omega arith)
     pick (inr q) (inl z) g =
         let x : kept_below f (suc w) ≡ kept_below f w = ap (λ t. kept_below f w ++ t) (kept_zero w (f w) z) ∙ append-nil (kept_below f w) in
@@ -233,7 +235,8 @@ pub dense_bound : (w : ℕ) (cells : List Kept) (b : ℚ) → number_in (dense_r
 unfolding dense_row
 dense_bound w cells b = get_or_push (map (cell_in cells) (range_with_len 0 w)) b (whole (pos 0)) w (length-map (range_with_len 0 w) (cell_in cells) ∙ length-range_with_len 0 w)
 
-pub row_is : (row : List ℚ) (w : ℕ) (f : ℕ → ℚ) (cells : List Kept) (b : ℚ) → length row ≡ w + 1 → cells ≡ kept_below f w → ((m : ℕ) → m < w → f m ≡ number_in row m) → b ≡ number_in row w → dense_row w cells b ≡ row
+pub row_is : (row : List ℚ) (w : ℕ) (f : ℕ → ℚ) (cells : List Kept) (b : ℚ) → length row ≡ w + 1 → cells ≡ kept_below f w → ((m : ℕ) → m < w → f m ≡ number_in row m)
+    → b ≡ number_in row w → dense_row w cells b ≡ row
 row_is row w f cells b h c e g =
     ext_get_or (whole (pos 0)) (dense_row w cells b) row (dense_length w cells b ∙ sym h) (λ m k. pick m (below_or_last m w (let n = dense_length w cells b in omega arith)))
   where
@@ -284,17 +287,20 @@ pub record Reached (f : ℕ → ℚ) (place i : ℕ) : Type 0 where
 pub reached_at : (f : ℕ → ℚ) (place i : ℕ) → i ≡ length (kept_below f place) → Reached f place i
 reached_at f place i e = record { at = place; low = omega arith; count = e }
 
-pub reached_next : (f : ℕ → ℚ) (place i w : ℕ) (ks : List Kept) (k : Kept) → Reached f place i → place ≤ w → ks ≡ kept_below f w → k ≡ get_or ks i k → i < length ks → k.place < place → Reached f place (i + 1)
+pub reached_next : (f : ℕ → ℚ) (place i w : ℕ) (ks : List Kept) (k : Kept) → Reached f place i → place ≤ w → ks ≡ kept_below f w → k ≡ get_or ks i k
+    → i < length ks → k.place < place → Reached f place (i + 1)
 reached_next f place i w ks k r h e q l b =
     let x = next_in f r.at w i ks k e q (let a = r.low in omega arith) r.count l in
     record { at = k.place + 1; low = omega arith; count = ap (λ n. n + 1) r.count ∙ sym (step_count f r.at w k x) }
 
-pub reached_here : (f : ℕ → ℚ) (place i w : ℕ) (ks : List Kept) (k : Kept) → Reached f place i → place ≤ w → ks ≡ kept_below f w → k ≡ get_or ks i k → i < length ks → k.place ≡ place → k.cell ≡ f place
+pub reached_here : (f : ℕ → ℚ) (place i w : ℕ) (ks : List Kept) (k : Kept) → Reached f place i → place ≤ w → ks ≡ kept_below f w → k ≡ get_or ks i k
+    → i < length ks → k.place ≡ place → k.cell ≡ f place
 reached_here f place i w ks k r h e q l b =
     let x = next_in f r.at w i ks k e q (let a = r.low in omega arith) r.count l in
     sym x.is ∙ ap f b
 
-pub reached_past : (f : ℕ → ℚ) (place i w : ℕ) (ks : List Kept) (k : Kept) → Reached f place i → place ≤ w → ks ≡ kept_below f w → k ≡ get_or ks i k → i < length ks → place < k.place → whole (pos 0) ≡ f place
+pub reached_past : (f : ℕ → ℚ) (place i w : ℕ) (ks : List Kept) (k : Kept) → Reached f place i → place ≤ w → ks ≡ kept_below f w → k ≡ get_or ks i k
+    → i < length ks → place < k.place → whole (pos 0) ≡ f place
 reached_past f place i w ks k r h e q l b =
     let x = next_in f r.at w i ks k e q (let a = r.low in omega arith) r.count l in
     sym (x.zeros place r.low b)
@@ -323,13 +329,15 @@ empty_row w = line_made w 0 (λ _. whole (pos 0)) [] (omega arith) (sym (zeros_s
 pub length-dense : (w : ℕ) (cells : List Kept) (b : ℚ) → length (dense_row w cells b) ≡ w + 1
 length-dense w cells b = dense_length w cells b
 
-pub sparse_new : (target : List ℚ) (items new : List Kept) (w count : ℕ) (f : ℕ → ℚ) (b : ℚ) → items ≡ new → length new ≡ w → length target ≡ w + 1 → count ≤ w → take count new ≡ kept_below f w → ((m : ℕ) → m < w → f m ≡ number_in target m) → b ≡ number_in target w
+pub sparse_new : (target : List ℚ) (items new : List Kept) (w count : ℕ) (f : ℕ → ℚ) (b : ℚ) → items ≡ new → length new ≡ w → length target ≡ w + 1
+    → count ≤ w → take count new ≡ kept_below f w → ((m : ℕ) → m < w → f m ≡ number_in target m) → b ≡ number_in target w
     → IsSparse (length items) count (take count items) × (dense_row (length items) (take count items) b ≡ target)
 sparse_new target items new w count f b e h l n k g q =
     subst (λ t. IsSparse (length t) count (take count t) × (dense_row (length t) (take count t) b ≡ target)) (sym e)
     (subst (λ m. IsSparse m count (take count new) × (dense_row m (take count new) b ≡ target)) (sym h) (line_made w count f (take count new) n k, row_is target w f (take count new) b l k g q))
 
-pub sparse_narrow : (target : List ℚ) (w : ℕ) (f : ℕ → ℚ) (b : ℚ) → length target ≡ w + 1 → ((m : ℕ) → m < w → f m ≡ number_in target m) → b ≡ number_in target w → ((m : ℕ) → m < w → FitsFrac (f m)) → FitsFrac b → IsNarrow target
+pub sparse_narrow : (target : List ℚ) (w : ℕ) (f : ℕ → ℚ) (b : ℚ) → length target ≡ w + 1 → ((m : ℕ) → m < w → f m ≡ number_in target m) → b ≡ number_in target w
+    → ((m : ℕ) → m < w → FitsFrac (f m)) → FitsFrac b → IsNarrow target
 sparse_narrow target w f b l g q u v = record { fits = λ m. pick m (sides m) }
   where
     sides : (m : ℕ) → (m < w) ⊎ (w ≤ m)
@@ -359,7 +367,8 @@ pub record IsFilled (items : List Kept) (count : ℕ) (b : ℚ) (target : List �
   pub row : dense_row (length items) (take count items) b ≡ target
   pub narrow : IsNarrow target
 
-pub filled : (cs : List ℚ) (items new : List Kept) (w count : ℕ) (f : ℕ → ℚ) (b z : ℚ) → w ≡ length cs → items ≡ new → length new ≡ w → count ≤ w → take count new ≡ kept_below f w → ((m : ℕ) → m < w → f m ≡ number_in cs m) → z ≡ b → ((m : ℕ) → m < w → FitsFrac (f m)) → FitsFrac z
+pub filled : (cs : List ℚ) (items new : List Kept) (w count : ℕ) (f : ℕ → ℚ) (b z : ℚ) → w ≡ length cs → items ≡ new → length new ≡ w → count ≤ w
+    → take count new ≡ kept_below f w → ((m : ℕ) → m < w → f m ≡ number_in cs m) → z ≡ b → ((m : ℕ) → m < w → FitsFrac (f m)) → FitsFrac z
     → IsFilled items count z (cs ++ b ∷ [])
 filled cs items new w count f b z c e h n k g q u v =
     let l : length (cs ++ b ∷ []) ≡ w + 1 = length_push cs b ∙ ap (λ n. n + 1) (sym c) in
@@ -369,5 +378,6 @@ filled cs items new w count f b z c e h n k g q u v =
     record { line = m.0; row = m.1; narrow = sparse_narrow (cs ++ b ∷ []) w f z l front last u v }
 
 -- ---- a cell whose place and number are written one after the other
-pub both_written : (cells : List Kept) (k : ℕ) (a d : Kept) (x : ℚ) → k < length cells → set (set cells k a) k (record { place = (get_or (set cells k a) k d).place; cell = x }) ≡ set cells k (record { place = a.place; cell = x })
+pub both_written : (cells : List Kept) (k : ℕ) (a d : Kept) (x : ℚ) → k < length cells
+    → set (set cells k a) k (record { place = (get_or (set cells k a) k d).place; cell = x }) ≡ set cells k (record { place = a.place; cell = x })
 both_written cells k a d x h = set-set cells k a _ ∙ ap (λ (t : Kept). set cells k (record { place = t.place; cell = x })) (get_or-set_same cells k a d h)

@@ -39,7 +39,8 @@ unpivoted-row r name s t h u =
     pick i l (inl e) = rw e (get_or-set_same t.table.basic r (width t.table + r) 0 (let c = u.count in omega arith))
     pick i l (inr e) = get_or-set_other t.table.basic r i (width t.table + r) 0 e ∙ u.slacks i l
 
-pub unpivoted-goal : (s : Sheet) (t : NamedTableau) → length t.table.basic ≡ height t.table → ((i : ℕ) → i < height t.table → basic_at t.table i ≡ width t.table + i) → IsUnpivoted (with_goal s t).table
+pub unpivoted-goal : (s : Sheet) (t : NamedTableau) → length t.table.basic ≡ height t.table → ((i : ℕ) → i < height t.table → basic_at t.table i ≡ width t.table + i)
+    → IsUnpivoted (with_goal s t).table
 unfolding with_goal
 unpivoted-goal s t c h =
     let b = length-range_with_len 0 (width t.table) in

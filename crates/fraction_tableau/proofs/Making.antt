@@ -15,7 +15,8 @@ use Rattle.rational_theory.proofs.Lowest.{num_size, den_size}
 use Rattle.fraction_tableau.proofs.KeptCells.{line_made, row_is, dense_cell, dense_bound, length-dense}
 use Rattle.fraction_tableau.proofs.Scales.{zero_is_over, to_above, to_least}
 
-pub row_made : (target : List ℚ) (w count : ℕ) (f : ℕ → ℚ) (new : List Kept) (b : ℚ) → length target ≡ w + 1 → count ≤ w → take count new ≡ kept_below f w → ((m : ℕ) → m < w → f m ≡ number_in target m) → b ≡ number_in target w
+pub row_made : (target : List ℚ) (w count : ℕ) (f : ℕ → ℚ) (new : List Kept) (b : ℚ) → length target ≡ w + 1 → count ≤ w → take count new ≡ kept_below f w
+    → ((m : ℕ) → m < w → f m ≡ number_in target m) → b ≡ number_in target w
     → IsSparse w count (take count new) × (dense_row w (take count new) b ≡ target)
 row_made target w count f new b l n k g q = (line_made w count f (take count new) n k, row_is target w f (take count new) b l k g q)
 
@@ -42,7 +43,8 @@ row_over d b w cs bound p h q k = pick (sides k w)
     pick (inr l) = last (more k w l)
 
 -- a scale of the first cells and the bound is one of the row
-pub scale_made : (s : Scale) (w count : ℕ) (cells : List Kept) (bound : ℚ) → 0 < s.denominator → s.denominator ≤ s.most → s.most < 2 ^ 42 → IsOver s.denominator s.most bound → ((i : ℕ) → i < count → IsOver s.denominator s.most (cell_at cells i))
+pub scale_made : (s : Scale) (w count : ℕ) (cells : List Kept) (bound : ℚ) → 0 < s.denominator → s.denominator ≤ s.most → s.most < 2 ^ 42
+    → IsOver s.denominator s.most bound → ((i : ℕ) → i < count → IsOver s.denominator s.most (cell_at cells i))
     → IsScaled s (dense_row w (take count cells) bound)
 scale_made s w count cells bound p l h b c = record {
   above = p;
@@ -58,7 +60,8 @@ scale_made s w count cells bound p l h b c = record {
     each (suc n) (c ∷ cs) (suc i) f = each n cs i (λ m q. f (suc m) (omega arith))
 
 -- the scale of a row that was joined
-pub scale_joined : (o : Option Scale) (j : Joining) (row : List ℚ) → SomeIff o (j.most < 2 ^ 42) (record { denominator = j.rescaling.to; most = j.most }) → IsJoining j → ((k : ℕ) → IsOver j.rescaling.to j.most (number_in row k)) → HasScale o row
+pub scale_joined : (o : Option Scale) (j : Joining) (row : List ℚ) → SomeIff o (j.most < 2 ^ 42) (record { denominator = j.rescaling.to; most = j.most })
+    → IsJoining j → ((k : ℕ) → IsOver j.rescaling.to j.most (number_in row k)) → HasScale o row
 scale_joined None j row h i n = tt
 scale_joined (Some s) j row h i n =
     subst (λ (t : Scale). IsScaled t row) (sym h.1) (record { above = to_above j i; denominator = to_least j i; short = h.0; numbers = n })

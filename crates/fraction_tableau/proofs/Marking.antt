@@ -27,7 +27,8 @@ bit_clear n i e = bit_zero (bit_at n i) (sym (ap (λ x. x == 0) (shr_and_one n i
 
 -- cells behind others, all at one place, with its mark
 module _ (marks new place : ℕ) (xs : List Kept) where
-  marked_with : (ys : List Kept) → ((k : ℕ) → (k ≡ place → ⊥) → cell_in ys k ≡ whole (pos 0)) → AreMarked marks xs → bit_at new (place % 64) ≡ 1 → ((k : ℕ) → (k ≡ place % 64 → ⊥) → bit_at new k ≡ bit_at marks k) → AreMarked new (xs ++ ys)
+  marked_with : (ys : List Kept) → ((k : ℕ) → (k ≡ place → ⊥) → cell_in ys k ≡ whole (pos 0)) → AreMarked marks xs → bit_at new (place % 64) ≡ 1
+      → ((k : ℕ) → (k ≡ place % 64 → ⊥) → bit_at new k ≡ bit_at marks k) → AreMarked new (xs ++ ys)
   marked_with ys apart m s o = record { empty = λ k z. pick k z (cases_eq (k % 64) (place % 64)) }
     where
       pick : (k : ℕ) → bit_at new (k % 64) ≡ 0 → (k % 64 ≡ place % 64) ⊎ (k % 64 ≡ place % 64 → ⊥) → cell_in (xs ++ ys) k ≡ whole (pos 0)
@@ -38,7 +39,8 @@ module _ (marks new place : ℕ) (xs : List Kept) where
   marked_kept x = marked_with (kept_at place x) (λ k n. kept_apart k place x n)
 
   -- .. with its mark where there is a cell, and with the same marks where there is none
-  pub marked_where : (x : ℚ) (made put : ℕ) → AreMarked marks xs → put ≡ made + length (kept_at place x) → (made < put → bit_at new (place % 64) ≡ 1) → ((k : ℕ) → (k ≡ place % 64 → ⊥) → bit_at new k ≡ bit_at marks k) → (put ≤ made → new ≡ marks) → AreMarked new (xs ++ kept_at place x)
+  pub marked_where : (x : ℚ) (made put : ℕ) → AreMarked marks xs → put ≡ made + length (kept_at place x) → (made < put → bit_at new (place % 64) ≡ 1)
+      → ((k : ℕ) → (k ≡ place % 64 → ⊥) → bit_at new k ≡ bit_at marks k) → (put ≤ made → new ≡ marks) → AreMarked new (xs ++ kept_at place x)
   marked_where x made put m e s o z = pick (zero_or_not x)
     where
       pick : (x ≡ whole (pos 0)) ⊎ (x ≡ whole (pos 0) → ⊥) → AreMarked new (xs ++ kept_at place x)
@@ -52,14 +54,17 @@ alone : (k : ℕ) (c : Kept) → (k ≡ c.place → ⊥) → cell_in (c ∷ []) 
 alone k c n = cond-false (eqb k c.place) c.cell (whole (pos 0)) (ne_eqb k c.place n)
 
 -- one cell more of a list, with its mark
-pub marked_next : (marks new i : ℕ) (cells : List Kept) (c : Kept) → i < length cells → c ≡ get_or cells i c → AreMarked marks (take i cells) → bit_at new (c.place % 64) ≡ 1 → ((k : ℕ) → (k ≡ c.place % 64 → ⊥) → bit_at new k ≡ bit_at marks k) → AreMarked new (take (i + 1) cells)
+pub marked_next : (marks new i : ℕ) (cells : List Kept) (c : Kept) → i < length cells → c ≡ get_or cells i c → AreMarked marks (take i cells)
+    → bit_at new (c.place % 64) ≡ 1 → ((k : ℕ) → (k ≡ c.place % 64 → ⊥) → bit_at new k ≡ bit_at marks k) → AreMarked new (take (i + 1) cells)
 marked_next marks new i cells c l g m s o =
     subst (AreMarked new) (sym (take_more cells i c l ∙ ap (λ x. take i cells ++ x ∷ []) (sym g))) (marked_with marks new c.place (take i cells) (c ∷ []) (λ k n. alone k c n) m s o)
 
-pub marked_put : (marks new made : ℕ) (cells : List Kept) (c : Kept) → made < length cells → AreMarked marks (take made cells) → bit_at new (c.place % 64) ≡ 1 → ((k : ℕ) → (k ≡ c.place % 64 → ⊥) → bit_at new k ≡ bit_at marks k) → AreMarked new (take (made + 1) (set cells made c))
+pub marked_put : (marks new made : ℕ) (cells : List Kept) (c : Kept) → made < length cells → AreMarked marks (take made cells) → bit_at new (c.place % 64) ≡ 1
+    → ((k : ℕ) → (k ≡ c.place % 64 → ⊥) → bit_at new k ≡ bit_at marks k) → AreMarked new (take (made + 1) (set cells made c))
 marked_put marks new made cells c l m s o =
     subst (AreMarked new) (sym (take_more_set cells made c l)) (marked_with marks new c.place (take made cells) (c ∷ []) (λ k n. alone k c n) m s o)
 
 -- a place whose bit is clear has no cell
-pub unmarked : (w : ℕ) (cells : List Kept) (b : ℚ) (row : List ℚ) (marks k : ℕ) → AreMarked marks cells → dense_row w cells b ≡ row → k < w → bit_at marks (k % 64) ≡ 0 → whole (pos 0) ≡ number_in row k
+pub unmarked : (w : ℕ) (cells : List Kept) (b : ℚ) (row : List ℚ) (marks k : ℕ) → AreMarked marks cells → dense_row w cells b ≡ row → k < w
+    → bit_at marks (k % 64) ≡ 0 → whole (pos 0) ≡ number_in row k
 unmarked w cells b row marks k m e h z = sym (m.empty k z) ∙ sym (dense_cell w cells b k h) ∙ ap (λ t. number_in t k) e

@@ -42,10 +42,12 @@ quiet_number j v e d m z n =
 quiet_refusal : (i j : ℕ) (e d : List ℚ) (m : ℕ) → IsNarrow d → number_in e m ≡ whole (pos 0) → clear_at i j e d m ≡ None
 quiet_refusal i j e d m n z = zero_cell i j (number_in d j) (number_in e m) d m n (ap (λ t. number_in d j *ℚ t) z ∙ *ℚ-zero (number_in d j))
 
-pub merge_passed : (i j : ℕ) (e d : List ℚ) (n p : ℕ) → IsNarrow d → n ≤ p → first_below (clear_at i j e d) n ≡ None → ((m : ℕ) → n ≤ m → m < p → number_in e m ≡ whole (pos 0)) → first_below (clear_at i j e d) p ≡ None
+pub merge_passed : (i j : ℕ) (e d : List ℚ) (n p : ℕ) → IsNarrow d → n ≤ p → first_below (clear_at i j e d) n ≡ None → ((m : ℕ) → n ≤ m → m < p → number_in e m ≡ whole (pos 0))
+    → first_below (clear_at i j e d) p ≡ None
 merge_passed i j e d n p s h f z = pass_none (clear_at i j e d) n p h f (λ m a b. quiet_refusal i j e d m s (z m a b))
 
-pub merge_fits : (j : ℕ) (v : ℚ) (e d : List ℚ) (n p : ℕ) → IsNarrow d → (number_in e j ≡ whole (pos 0) → ⊥) → ((m : ℕ) → m < n → FitsFrac (merged_at j v e d m)) → ((m : ℕ) → n ≤ m → m < p → number_in e m ≡ whole (pos 0))
+pub merge_fits : (j : ℕ) (v : ℚ) (e d : List ℚ) (n p : ℕ) → IsNarrow d → (number_in e j ≡ whole (pos 0) → ⊥) → ((m : ℕ) → m < n → FitsFrac (merged_at j v e d m))
+    → ((m : ℕ) → n ≤ m → m < p → number_in e m ≡ whole (pos 0))
     → (m : ℕ) → m < p → FitsFrac (merged_at j v e d m)
 merge_fits j v e d n p s o f z m h = pick (sides m n)
   where
@@ -65,7 +67,8 @@ same_number j v e d k x f a b c = rw (a, ← b, c) refl
 pub below_next : (m k : ℕ) → m < k + 1 → (m ≡ k) ⊎ (m < k)
 below_next m k l = grind arith
 
-pub merge_next_is : (i j : ℕ) (v : ℚ) (e d : List ℚ) (now new : List Kept) (taken made put marks : ℕ) (k : Kept) (x : ℚ) → length new ≡ length now → k.place < length now → taken ≡ length (kept_below (number_in d) (k.place + 1)) → made ≤ k.place
+pub merge_next_is : (i j : ℕ) (v : ℚ) (e d : List ℚ) (now new : List Kept) (taken made put marks : ℕ) (k : Kept) (x : ℚ) → length new ≡ length now
+    → k.place < length now → taken ≡ length (kept_below (number_in d) (k.place + 1)) → made ≤ k.place
     → take made now ≡ kept_below (merged_at j v e d) k.place → x ≡ merged_at j v e d k.place → put ≡ made + length (kept_at k.place x) → take put new ≡ take made now ++ kept_at k.place x
     → first_below (clear_at i j e d) k.place ≡ None → clear_at i j e d k.place ≡ None → ((m : ℕ) → m < k.place → FitsFrac (merged_at j v e d m)) → FitsFrac x
     → IsMerged i j v e d new (record { below = k.place + 1; taken = taken; made = put; marks = marks })
@@ -106,7 +109,8 @@ idle_refusal i j c m z = pick (cases_eq m j)
     pick (inl q) = cond-true (eqb m j) None _ (eq-eqb m j q)
     pick (inr q) = cond-false (eqb m j) None _ (ne_eqb m j q) ∙ ap (λ t. refused Div t (number_in c j) i m) z ∙ zero_quotient (number_in c j) i m
 
-idle_fits : (j : ℕ) (v : ℚ) (c : List ℚ) (n p : ℕ) → (number_in c j ≡ whole (pos 0) → ⊥) → ((m : ℕ) → m < n → FitsFrac (turned_cell j v c m)) → ((m : ℕ) → n ≤ m → m < p → number_in c m ≡ whole (pos 0))
+idle_fits : (j : ℕ) (v : ℚ) (c : List ℚ) (n p : ℕ) → (number_in c j ≡ whole (pos 0) → ⊥) → ((m : ℕ) → m < n → FitsFrac (turned_cell j v c m))
+    → ((m : ℕ) → n ≤ m → m < p → number_in c m ≡ whole (pos 0))
     → (m : ℕ) → m < p → FitsFrac (turned_cell j v c m)
 idle_fits j v c n p o f z m h = pick (sides m n)
   where
@@ -114,7 +118,8 @@ idle_fits j v c n p o f z m h = pick (sides m n)
     pick (inl a) = f m a
     pick (inr a) = subst FitsFrac (sym (idle_number j v c m (z m a h) o)) zero_fits
 
-pub turning_past : (i j : ℕ) (v : ℚ) (c : List ℚ) (w : ℕ) (now : List Kept) (index made : ℕ) (k : Kept) → (t : Turning i j v c w now index made) → IsNext (number_in c) t.at w k → first_below (turn_at i j c) k.place ≡ None
+pub turning_past : (i j : ℕ) (v : ℚ) (c : List ℚ) (w : ℕ) (now : List Kept) (index made : ℕ) (k : Kept) → (t : Turning i j v c w now index made)
+    → IsNext (number_in c) t.at w k → first_below (turn_at i j c) k.place ≡ None
 turning_past i j v c w now index made k t n = pass_none (turn_at i j c) t.at k.place n.after t.passed (λ m a b. idle_refusal i j c m (n.zeros m a b))
 
 pub record IsTurned (i j : ℕ) (v : ℚ) (c : List ℚ) (w : ℕ) (now : List Kept) (made : ℕ) : Type 0 where
@@ -122,7 +127,8 @@ pub record IsTurned (i j : ℕ) (v : ℚ) (c : List ℚ) (w : ℕ) (now : List K
   pub passed : first_below (turn_at i j c) w ≡ None
   pub fits : (m : ℕ) → m < w → FitsFrac (turned_cell j v c m)
 
-pub turning_end : (i j : ℕ) (v : ℚ) (c : List ℚ) (w : ℕ) (now : List Kept) (index made : ℕ) → (number_in c j ≡ whole (pos 0) → ⊥) → (t : Turning i j v c w now index made) → length (kept_below (number_in c) w) ≤ index → IsTurned i j v c w now made
+pub turning_end : (i j : ℕ) (v : ℚ) (c : List ℚ) (w : ℕ) (now : List Kept) (index made : ℕ) → (number_in c j ≡ whole (pos 0) → ⊥) → (t : Turning i j v c w now index made)
+    → length (kept_below (number_in c) w) ≤ index → IsTurned i j v c w now made
 turning_end i j v c w now index made o t h =
     let u = t.count in
     let z = same_count (number_in c) t.at w t.inside (omega arith) in
@@ -132,14 +138,17 @@ turning_end i j v c w now index made o t h =
       fits = idle_fits j v c t.at w o t.fits z;
     }
 
-pub turn_refusal_same : (i j : ℕ) (c : List ℚ) (k : Kept) (p : ℚ) → p ≡ number_in c j → number_in c k.place ≡ k.cell → cond (eqb k.place j) None (refused Div k.cell p i k.place) ≡ turn_at i j c k.place
+pub turn_refusal_same : (i j : ℕ) (c : List ℚ) (k : Kept) (p : ℚ) → p ≡ number_in c j → number_in c k.place ≡ k.cell
+    → cond (eqb k.place j) None (refused Div k.cell p i k.place) ≡ turn_at i j c k.place
 turn_refusal_same i j c k p a b = rw (a, ← b) refl
 
 pub turn_number_same : (j : ℕ) (v : ℚ) (c : List ℚ) (k : Kept) (p : ℚ) → p ≡ number_in c j → number_in c k.place ≡ k.cell → cond (eqb k.place j) v (k.cell *ℚ inverse_ℚ p) ≡ turned_cell j v c k.place
 turn_number_same j v c k p a b = rw (a, ← b) refl
 
-pub turning_next : (i j : ℕ) (v : ℚ) (c : List ℚ) (w : ℕ) (now new : List Kept) (index made put : ℕ) (k : Kept) (x : ℚ) → (number_in c j ≡ whole (pos 0) → ⊥) → (t : Turning i j v c w now index made) → IsNext (number_in c) t.at w k → length new ≡ length now
-    → x ≡ turned_cell j v c k.place → put ≡ made + length (kept_at k.place x) → take put new ≡ take made now ++ kept_at k.place x → turn_at i j c k.place ≡ None → FitsFrac x → Turning i j v c w new (index + 1) put
+pub turning_next : (i j : ℕ) (v : ℚ) (c : List ℚ) (w : ℕ) (now new : List Kept) (index made put : ℕ) (k : Kept) (x : ℚ) → (number_in c j ≡ whole (pos 0) → ⊥)
+    → (t : Turning i j v c w now index made) → IsNext (number_in c) t.at w k → length new ≡ length now
+    → x ≡ turned_cell j v c k.place → put ≡ made + length (kept_at k.place x) → take put new ≡ take made now ++ kept_at k.place x → turn_at i j c k.place ≡ None
+    → FitsFrac x → Turning i j v c w new (index + 1) put
 turning_next i j v c w now new index made put k x o t n h q a b g u =
     let l = n.inside in
     let s = n.after in
@@ -165,12 +174,14 @@ turning_next i j v c w now new index made put k x o t n h q a b g u =
 bound_below : {E : Type 0} (g : ℕ → Option E) (n w : ℕ) → n ≡ w + 1 → first_below g n ≡ earlier (first_below g w) (g w)
 bound_below g n w e = ap (first_below g) (e ∙ add-one w)
 
-pub turn_stopped : (i j : ℕ) (c : List ℚ) (w : ℕ) (o p : ℚ) (x : WideCell) → length c ≡ w + 1 → o ≡ whole (pos 1) → p ≡ number_in c j → refused Div o p i j ≡ None → first_below (turn_at i j c) w ≡ Some x → turn_refusal i j c ≡ Some x
+pub turn_stopped : (i j : ℕ) (c : List ℚ) (w : ℕ) (o p : ℚ) (x : WideCell) → length c ≡ w + 1 → o ≡ whole (pos 1) → p ≡ number_in c j → refused Div o p i j ≡ None
+    → first_below (turn_at i j c) w ≡ Some x → turn_refusal i j c ≡ Some x
 unfolding turn_refusal
 turn_stopped i j c w o p x l a b f g =
     ap₂ earlier (ap₂ (λ s t. refused Div s t i j) (sym a) (sym b) ∙ f) (bound_below (turn_at i j c) (length c) w l ∙ ap (λ s. earlier s (turn_at i j c w)) g)
 
-pub turn_ended : (i j : ℕ) (c : List ℚ) (w : ℕ) (o p b : ℚ) → length c ≡ w + 1 → j < w → o ≡ whole (pos 1) → p ≡ number_in c j → b ≡ number_in c w → refused Div o p i j ≡ None → first_below (turn_at i j c) w ≡ None
+pub turn_ended : (i j : ℕ) (c : List ℚ) (w : ℕ) (o p b : ℚ) → length c ≡ w + 1 → j < w → o ≡ whole (pos 1) → p ≡ number_in c j → b ≡ number_in c w
+    → refused Div o p i j ≡ None → first_below (turn_at i j c) w ≡ None
     → turn_refusal i j c ≡ refused Div b p i w
 unfolding turn_refusal
 turn_ended i j c w o p b l h a e d f g =
@@ -190,7 +201,8 @@ bound_refusal i j e d w f x y h a b c =
     cond-false (eqb w j) None (earlier (refused Mul (number_in d j) (number_in e w) i w) (refused Sub (number_in d w) (number_in d j *ℚ number_in e w) i w)) (ne_eqb w j (λ q. absurd (omega arith)))
     ∙ rw (a, b, c) refl
 
-pub clear_bound : (i j : ℕ) (e d : List ℚ) (p : ℚ) (w : ℕ) (f x y : ℚ) (r : WideCell) → length d ≡ w + 1 → j < w → f ≡ number_in d j → x ≡ number_in d w → y ≡ number_in e w → first_below (clear_at i j e d) w ≡ None
+pub clear_bound : (i j : ℕ) (e d : List ℚ) (p : ℚ) (w : ℕ) (f x y : ℚ) (r : WideCell) → length d ≡ w + 1 → j < w → f ≡ number_in d j → x ≡ number_in d w
+    → y ≡ number_in e w → first_below (clear_at i j e d) w ≡ None
     → earlier (refused Mul f y i w) (refused Sub x (f *ℚ y) i w) ≡ Some r → clear_refusal i j e d p ≡ Some r
 unfolding clear_refusal
 clear_bound i j e d p w f x y r l h a b c g q =

@@ -52,10 +52,12 @@ first_turn : (i j : ℕ) (c : List ℚ) → first_of (turn_operations i j c) ≡
 unfolding turn_refusal
 first_turn i j c =
     ap (λ o. earlier (refused Div (whole (pos 1)) (get_or c j (whole (pos 0))) i j) o)
-    (first_others (λ k. operation Div (get_or c k (whole (pos 0))) (get_or c j (whole (pos 0))) i k ∷ []) (λ k. refused Div (get_or c k (whole (pos 0))) (get_or c j (whole (pos 0))) i k) j (length c) (λ k. earlier_none _))
+    (first_others (λ k. operation Div (get_or c k (whole (pos 0))) (get_or c j (whole (pos 0))) i k ∷ []) (λ k. refused Div (get_or c k (whole (pos 0))) (get_or c j (whole (pos 0))) i k)
+    j (length c) (λ k. earlier_none _))
 
 first_cell : (i j : ℕ) (e d : List ℚ) (k : ℕ)
-    → first_of (cell_operations i j e d k) ≡ earlier (refused Mul (get_or d j (whole (pos 0))) (get_or e k (whole (pos 0))) i k) (refused Sub (get_or d k (whole (pos 0))) (get_or d j (whole (pos 0)) *ℚ get_or e k (whole (pos 0))) i k)
+    → first_of (cell_operations i j e d k) ≡ earlier (refused Mul (get_or d j (whole (pos 0))) (get_or e k (whole (pos 0))) i k)
+    (refused Sub (get_or d k (whole (pos 0))) (get_or d j (whole (pos 0)) *ℚ get_or e k (whole (pos 0))) i k)
 first_cell i j e d k = ap (λ o. earlier (refused Mul (get_or d j (whole (pos 0))) (get_or e k (whole (pos 0))) i k) o) (earlier_none _)
 
 first_clear : (i j : ℕ) (e : List ℚ) (p : ℚ) (d : List ℚ) → first_of (clear_operations i j e p d) ≡ clear_refusal i j e d p
@@ -63,7 +65,8 @@ unfolding clear_refusal
 first_clear i j e p d =
     first_append (listed_others (cell_operations i j e d) j (length d)) (operation Div (get_or d j (whole (pos 0))) p i j ∷ [])
     ∙ ap₂ earlier
-    (first_others (cell_operations i j e d) (λ k. earlier (refused Mul (get_or d j (whole (pos 0))) (get_or e k (whole (pos 0))) i k) (refused Sub (get_or d k (whole (pos 0))) (get_or d j (whole (pos 0)) *ℚ get_or e k (whole (pos 0))) i k)) j (length d) (first_cell i j e d))
+    (first_others (cell_operations i j e d) (λ k. earlier (refused Mul (get_or d j (whole (pos 0))) (get_or e k (whole (pos 0))) i k)
+    (refused Sub (get_or d k (whole (pos 0))) (get_or d j (whole (pos 0)) *ℚ get_or e k (whole (pos 0))) i k)) j (length d) (first_cell i j e d))
     (earlier_none _)
 
 first_pivot : (r j : ℕ) (t : Tableau) → first_of (pivot_operations r j t) ≡ pivot_refusal r j t.rows t.goal

@@ -71,12 +71,14 @@ others_next r j e p rows now then n o h f w g v = record {
     later k l (inl q) = ap (λ (t : List (List ℚ)). get_or t k []) (skipped q)
     later k l (inr q) = ap (λ (t : List (List ℚ)). get_or t k []) (written q) ∙ get_or-set_other now n k _ [] (λ b. absurd (omega arith))
 
-pub others_stop : (r j : ℕ) (e : List ℚ) (p : ℚ) (rows now : List (List ℚ)) (n : ℕ) (w : WideCell) → Others r j e p rows now n → n < length rows → row_refusal r j e p now n ≡ Some w → first_below (row_refusal r j e p rows) (length rows) ≡ Some w
+pub others_stop : (r j : ℕ) (e : List ℚ) (p : ℚ) (rows now : List (List ℚ)) (n : ℕ) (w : WideCell) → Others r j e p rows now n → n < length rows
+    → row_refusal r j e p now n ≡ Some w → first_below (row_refusal r j e p rows) (length rows) ≡ Some w
 others_stop r j e p rows now n w o h f =
     first_is (row_refusal r j e p rows) n (length rows) w o.passed (sym (line_same r j e p rows now n (o.rest n (omega arith))) ∙ f) h
 
 -- a row with 0 at the pivot's place stays, and so does the pivot's own
-pub others_idle : (r j : ℕ) (e : List ℚ) (p : ℚ) (rows now : List (List ℚ)) (n : ℕ) → Others r j e p rows now n → n < length rows → length (get_or now n []) ≡ length e → j < length e → number_in (get_or now n []) j ≡ whole (pos 0)
+pub others_idle : (r j : ℕ) (e : List ℚ) (p : ℚ) (rows now : List (List ℚ)) (n : ℕ) → Others r j e p rows now n → n < length rows → length (get_or now n []) ≡ length e
+    → j < length e → number_in (get_or now n []) j ≡ whole (pos 0)
     → Others r j e p rows now (n + 1)
 others_idle r j e p rows now n o h w l z = others_next r j e p rows now now n o h (free (cases_eq n r)) (λ k. refl) (same (cases_eq n r)) o.narrow
   where

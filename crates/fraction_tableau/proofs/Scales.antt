@@ -1,5 +1,7 @@
 -- Lemmas on the definitions of `Scales`: numbers over a denominator, and a narrow row that is cleared by another one.
-use Rattle.std.proofs.Common.{◌≡◌, ℕ, zero, suc, ℤ, pos, neg_ℤ, Bool, true, false, cond, eqb, Option, Some, None, List, length, take, ◌++◌, ◌*ℤ◌, ◌+ℤ◌, ◌+◌, ◌*◌, ◌/◌, ◌<◌, ◌≤◌, ◌^◌, ◌⊎◌, inl, inr, refl, sym, ◌∙◌, ap, ap₂, subst, arith, mul-pos, mul-le-mul_right, unsigned_abs, SFits}
+use Rattle.std.proofs.Common.{◌≡◌, ℕ, zero, suc, ℤ, pos, neg_ℤ, Bool, true, false, cond, eqb, Option, Some, None, List, length, take, ◌++◌, ◌*ℤ◌}
+use Rattle.std.proofs.Common.{◌+ℤ◌, ◌+◌, ◌*◌, ◌/◌, ◌<◌, ◌≤◌, ◌^◌, ◌⊎◌, inl, inr, refl, sym, ◌∙◌, ap, ap₂, subst, arith, mul-pos, mul-le-mul_right}
+use Rattle.std.proofs.Common.{unsigned_abs, SFits}
 use Prim.Native.Nat.{◌∣◌}
 use native.Mathlib.Nat.{mul-div_cancel', dvd-mul_left}
 use Rattle.std.proofs.lemmas.Bool.{cases_eq, cond-true, cond-false, eq-eqb, ne_eqb}
@@ -29,7 +31,8 @@ use Rattle.fraction_tableau.specs.declared.joining.Joining.{Joining}
 
 -- ---- a number over a multiple of its denominator
 pub over_multiple : (x : ℚ) (d : ℕ) → 0 < d → x.den * (d / x.den) ≡ d → over (numerator d x) d ≡ x
-over_multiple x d h e = same_ratio _ _ _ _ _ _ _ _ (over_terms (x.num *ℤ pos (d / x.den)) (up x.num * (d / x.den)) (down x.num * (d / x.den)) d h (omega (arith, ints))) (own_ratio x) (spread (up x.num) (down x.num) (d / x.den) x.den d e)
+over_multiple x d h e = same_ratio _ _ _ _ _ _ _ _ (over_terms (x.num *ℤ pos (d / x.den)) (up x.num * (d / x.den)) (down x.num * (d / x.den)) d h (omega (arith, ints)))
+    (own_ratio x) (spread (up x.num) (down x.num) (d / x.den) x.den d e)
   where
     spread : (u v q n d : ℕ) → n * q ≡ d → u * q * n + v * d ≡ v * q * n + u * d
     spread u v q n d e = rw (← e) (omega arith)
@@ -87,7 +90,8 @@ cleared_over : (a f x : ℤ) (d m g : ℕ) → 0 < d → 0 < m → 0 < g
     → over a d +ℚ neg_ℚ (over (f *ℤ pos g) d *ℚ over x (m * g)) ≡ over (combined m f a x) (d * m)
 cleared_over a f x d m g h k l =
     same_ratio _ _ _ _ _ _ _ _
-    (sum_ratio _ _ _ _ _ _ _ _ (over_ratio a d h) (neg_ratio _ _ _ _ (product_ratio _ _ _ _ _ _ _ _ (over_terms (f *ℤ pos g) (up f * g) (down f * g) d h (omega (arith, ints))) (over_ratio x (m * g) (mul-pos k l)))))
+    (sum_ratio _ _ _ _ _ _ _ _ (over_ratio a d h)
+    (neg_ratio _ _ _ _ (product_ratio _ _ _ _ _ _ _ _ (over_terms (f *ℤ pos g) (up f * g) (down f * g) d h (omega (arith, ints))) (over_ratio x (m * g) (mul-pos k l)))))
     (over_terms (combined m f a x) (up a * m + up f * down x + down f * up x) (down a * m + up f * up x + down f * down x) (d * m) (mul-pos h k) (omega (arith, ints)))
     (omega arith)
 
@@ -134,7 +138,8 @@ pub numerator_zero : (d : ℕ) (x : ℚ) → x ≡ whole (pos 0) → numerator d
 unfolding whole
 numerator_zero d x e = ap (numerator d) e ∙ zero-*ℤ (pos (d / 1))
 
-pub joined_size : (j : Joining) (b : Bool) (n x : ℤ) → IsJoining j → unsigned_abs n ≤ j.row.most → unsigned_abs x ≤ j.turned.most → unsigned_abs (combined j.rescaling.times j.part (cond b (pos 0) n) x) ≤ j.most
+pub joined_size : (j : Joining) (b : Bool) (n x : ℤ) → IsJoining j → unsigned_abs n ≤ j.row.most → unsigned_abs x ≤ j.turned.most
+    → unsigned_abs (combined j.rescaling.times j.part (cond b (pos 0) n) x) ≤ j.most
 joined_size j b n x i p q =
     let s = combined_size (cond b (pos 0) n) j.part x j.rescaling.times j.row.most j.turned.most (zeroed_size b n j.row.most p) q in
     omega (arith, s, i.most)
@@ -148,7 +153,8 @@ turned_above j i = subst (λ n. 0 < n) i.turned (mul-pos i.times i.shared)
 pub part_short : (j : Joining) → IsJoining j → unsigned_abs j.part < 2 ^ 62
 part_short j i = let l : 1 ≤ j.turned.most = omega (arith, turned_above j i, i.turned_least) in let p = mul-le-mul_right (unsigned_abs j.part) l in omega (arith, p, i.most, i.short)
 
-pub joined_bound : (j : Joining) (b : Bool) (n x : ℤ) → IsJoining j → unsigned_abs n ≤ j.row.most → unsigned_abs x ≤ j.turned.most → unsigned_abs (cond b (pos 0) n) * unsigned_abs (pos j.rescaling.times) + unsigned_abs j.part * unsigned_abs x < 2 ^ 62
+pub joined_bound : (j : Joining) (b : Bool) (n x : ℤ) → IsJoining j → unsigned_abs n ≤ j.row.most → unsigned_abs x ≤ j.turned.most
+    → unsigned_abs (cond b (pos 0) n) * unsigned_abs (pos j.rescaling.times) + unsigned_abs j.part * unsigned_abs x < 2 ^ 62
 joined_bound j b n x i p q =
     let s = at_most (unsigned_abs (cond b (pos 0) n)) j.rescaling.times j.row.most (unsigned_abs j.part) (unsigned_abs x) j.turned.most (zeroed_size b n j.row.most p) q in
     omega (arith, s, i.most, i.short)
@@ -202,7 +208,8 @@ first_above (suc m) g e h k = omega arith
 
 -- ---- the walk over the turned row's cells
 
-pub joined_next : (target d : List ℚ) (now new : List Kept) (taken made put marks : ℕ) (k : Kept) → length new ≡ length now → k.place < length now → taken ≡ length (kept_below (number_in d) (k.place + 1)) → made ≤ k.place
+pub joined_next : (target d : List ℚ) (now new : List Kept) (taken made put marks : ℕ) (k : Kept) → length new ≡ length now → k.place < length now
+    → taken ≡ length (kept_below (number_in d) (k.place + 1)) → made ≤ k.place
     → take made now ≡ kept_below (number_in target) k.place → k.cell ≡ number_in target k.place → put ≡ made + length (kept_at k.place k.cell) → take put new ≡ take made now ++ kept_at k.place k.cell
     → AreMarked marks (take put new)
     → IsJoined target d new (record { below = k.place + 1; taken = taken; made = put; marks = marks })

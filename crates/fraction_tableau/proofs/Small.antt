@@ -1,5 +1,6 @@
 -- Where all numbers of the rows of a pivot are small, none of its operations is refused.
-use Rattle.std.proofs.Common.{◌≡◌, ℕ, zero, suc, ℤ, pos, negsuc, neg_ℤ, zero-lt-suc, Bool, true, false, cond, eqb, Option, None, List, length, get_or, refl, sym, ◌∙◌, ap, subst, ◌<◌, ◌^◌, unsigned_abs, arith}
+use Rattle.std.proofs.Common.{◌≡◌, ℕ, zero, suc, ℤ, pos, negsuc, neg_ℤ, zero-lt-suc, Bool, true, false, cond, eqb, Option, None, List, length, get_or}
+use Rattle.std.proofs.Common.{refl, sym, ◌∙◌, ap, subst, ◌<◌, ◌^◌, unsigned_abs, arith}
 use Rattle.rational_theory.specs.laws.Fractions.{abs-neg_ℤ}
 use Rattle.rational_theory.specs.Rational.{ℚ, whole, inverse_ℚ, turned, ◌*ℚ◌}
 use Rattle.rational_theory.proofs.Arithmetic.{*ℚ_comm}
@@ -20,7 +21,8 @@ pub record AreSmall (row : List ℚ) : Type 0 where
 -- every number of a narrow row is
 pub scaled_small : (s : Scale) (row : List ℚ) → IsScaled s row → AreSmall row
 scaled_small s row h = record {
-  small = λ k. let o = h.numbers k in subst (λ (x : ℚ). IsSmall (2 ^ 42) x) o.same (over_small _ s.denominator (2 ^ 42) h.above (omega (arith, o.size, h.short)) (omega (arith, h.denominator, h.short)));
+  small = λ k. let o = h.numbers k in subst (λ (x : ℚ). IsSmall (2 ^ 42) x) o.same (over_small _ s.denominator (2 ^ 42) h.above (omega (arith, o.size, h.short))
+      (omega (arith, h.denominator, h.short)));
 }
 
 turned_small : (z : ℤ) (d b : ℕ) → (z ≡ pos 0 → ⊥) → unsigned_abs z < b → d < b → IsSmall b (turned z d)

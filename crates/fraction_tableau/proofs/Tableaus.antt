@@ -15,7 +15,8 @@ use Rattle.fraction_tableau.specs.Refusals.{exchanged_rows}
 use Rattle.fraction_tableau.specs.NamedTableaus.{NamedTableau, IsSound, unnamed, blank_table, blank_tableau, row_cells, with_row, goal_cells, with_goal, rebound, with_bound, with_goal_bound}
 
 -- ---- a new tableau
-pub blank_is : (m w : ℕ) (rows : List (List ℚ)) (goal : List ℚ) (basic standing : List ℕ) (names : List RowId) → rows ≡ replicate m (replicate (w + 1) (whole (pos 0))) → goal ≡ replicate (w + 1) (whole (pos 0))
+pub blank_is : (m w : ℕ) (rows : List (List ℚ)) (goal : List ℚ) (basic standing : List ℕ) (names : List RowId) → rows ≡ replicate m (replicate (w + 1) (whole (pos 0)))
+    → goal ≡ replicate (w + 1) (whole (pos 0))
     → basic ≡ range_with_len w m → standing ≡ range_with_len 0 w → names ≡ replicate m unnamed
     → record { table = record { rows = rows; goal = goal; basic = basic; standing = standing }; names = names; spent = false } ≡ blank_tableau m w
 unfolding blank_table blank_tableau
@@ -65,7 +66,8 @@ sound_blank m w h =
     }
 
 -- ---- a loaded row
-pub row_is : (t : NamedTableau) (r : ℕ) (name : RowId) (s : Sheet) (rows : List (List ℚ)) (basic : List ℕ) (names : List RowId) → rows ≡ set t.table.rows r (row_cells s) → basic ≡ set t.table.basic r (width t.table + r) → names ≡ set t.names r name
+pub row_is : (t : NamedTableau) (r : ℕ) (name : RowId) (s : Sheet) (rows : List (List ℚ)) (basic : List ℕ) (names : List RowId) → rows ≡ set t.table.rows r (row_cells s)
+    → basic ≡ set t.table.basic r (width t.table + r) → names ≡ set t.names r name
     → record { table = record { rows = rows; goal = t.table.goal; basic = basic; standing = t.table.standing }; names = names; spent = t.spent } ≡ with_row r name s t
 unfolding with_row
 row_is t r name s rows basic names a b c = λ i. record { table = record { rows = a i; goal = t.table.goal; basic = b i; standing = t.table.standing }; names = c i; spent = t.spent }
@@ -77,13 +79,15 @@ unfolding with_goal
 goal_is t s goal standing a b = λ i. record { table = record { rows = t.table.rows; goal = a i; basic = t.table.basic; standing = b i }; names = t.names; spent = false }
 
 -- ---- another bound
-pub bound_is : (t : NamedTableau) (r : ℕ) (x : ℚ) (rows : List (List ℚ)) → rows ≡ set t.table.rows r (rebound x (line t.table r)) → record { table = record { rows = rows; goal = t.table.goal; basic = t.table.basic; standing = t.table.standing }; names = t.names; spent = t.spent } ≡ with_bound r x t
+pub bound_is : (t : NamedTableau) (r : ℕ) (x : ℚ) (rows : List (List ℚ)) → rows ≡ set t.table.rows r (rebound x (line t.table r))
+    → record { table = record { rows = rows; goal = t.table.goal; basic = t.table.basic; standing = t.table.standing }; names = t.names; spent = t.spent } ≡ with_bound r x t
 unfolding with_bound
 bound_is t r x rows e = λ i. record { table = record { rows = e i; goal = t.table.goal; basic = t.table.basic; standing = t.table.standing }; names = t.names; spent = t.spent }
 
 -- ---- a copy
 -- ---- another bound of the goal row
-pub goal_bound_is : (t : NamedTableau) (x : ℚ) (goal : List ℚ) → goal ≡ rebound x t.table.goal → record { table = record { rows = t.table.rows; goal = goal; basic = t.table.basic; standing = t.table.standing }; names = t.names; spent = t.spent } ≡ with_goal_bound x t
+pub goal_bound_is : (t : NamedTableau) (x : ℚ) (goal : List ℚ) → goal ≡ rebound x t.table.goal
+    → record { table = record { rows = t.table.rows; goal = goal; basic = t.table.basic; standing = t.table.standing }; names = t.names; spent = t.spent } ≡ with_goal_bound x t
 unfolding with_goal_bound
 goal_bound_is t x goal e = λ i. record { table = record { rows = t.table.rows; goal = e i; basic = t.table.basic; standing = t.table.standing }; names = t.names; spent = t.spent }
 

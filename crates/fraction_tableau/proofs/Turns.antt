@@ -46,8 +46,10 @@ own_unit : (d : ℕ) → 0 < d → over (pos d) d ≡ whole (pos 1)
 own_unit d h = same_ratio _ _ _ _ _ _ _ _ (over_ratio (pos d) d h) (whole_ratio (pos 1)) (omega arith)
 
 pub turned_is : (t : Turning) (own : Bool) (x : ℚ) → IsTurning t → IsOver t.row.denominator t.row.most x
-    → over (cond (int_lt t.pivot (pos 0)) (neg_ℤ (cond own (pos t.row.denominator) (numerator t.row.denominator x))) (cond own (pos t.row.denominator) (numerator t.row.denominator x))) (unsigned_abs t.pivot) ≡ cond own (inverse_ℚ (pivot_of t)) (x *ℚ inverse_ℚ (pivot_of t))
-turned_is t true x i o = turned_over t.pivot (pos t.row.denominator) t.row.denominator (int_lt t.pivot (pos 0)) i.above i.some refl ∙ ap (λ u. u *ℚ inverse_ℚ (pivot_of t)) (own_unit t.row.denominator i.above) ∙ one-*ℚ _
+    → over (cond (int_lt t.pivot (pos 0)) (neg_ℤ (cond own (pos t.row.denominator) (numerator t.row.denominator x))) (cond own (pos t.row.denominator) (numerator t.row.denominator x)))
+    (unsigned_abs t.pivot) ≡ cond own (inverse_ℚ (pivot_of t)) (x *ℚ inverse_ℚ (pivot_of t))
+turned_is t true x i o = turned_over t.pivot (pos t.row.denominator) t.row.denominator (int_lt t.pivot (pos 0)) i.above i.some refl
+    ∙ ap (λ u. u *ℚ inverse_ℚ (pivot_of t)) (own_unit t.row.denominator i.above) ∙ one-*ℚ _
 turned_is t false x i o = turned_over t.pivot (numerator t.row.denominator x) t.row.denominator (int_lt t.pivot (pos 0)) i.above i.some refl ∙ ap (λ u. u *ℚ inverse_ℚ (pivot_of t)) o.same
 
 pub own_size : (t : Turning) (own : Bool) (n : ℤ) → IsTurning t → unsigned_abs n ≤ t.row.most → unsigned_abs (cond own (pos t.row.denominator) n) ≤ t.row.most
@@ -64,27 +66,32 @@ size_above (pos (suc a)) z = zero-lt-suc a
 size_above (negsuc a) z = zero-lt-suc a
 
 pub turned_size : (t : Turning) (own : Bool) (x : ℚ) → IsTurning t → IsOver t.row.denominator t.row.most x
-    → unsigned_abs (cond (int_lt t.pivot (pos 0)) (neg_ℤ (cond own (pos t.row.denominator) (numerator t.row.denominator x))) (cond own (pos t.row.denominator) (numerator t.row.denominator x))) ≤ t.row.most
+    → unsigned_abs (cond (int_lt t.pivot (pos 0)) (neg_ℤ (cond own (pos t.row.denominator) (numerator t.row.denominator x)))
+    (cond own (pos t.row.denominator) (numerator t.row.denominator x))) ≤ t.row.most
 turned_size t own x i o = signed_size (int_lt t.pivot (pos 0)) _ t.row.most (own_size t own _ i o.size)
 
 -- ---- the whole row
 -- each number of the turned row is over the pivot's size, and none is greater than the greatest before
-pub turned_scaled : (t : Turning) (d : List ℚ) → IsTurning t → IsScaled t.row d → pivot_of t ≡ number_in d t.place → t.place < length d → (k : ℕ) → IsOver (unsigned_abs t.pivot) t.row.most (number_in (turned t.place d) k)
+pub turned_scaled : (t : Turning) (d : List ℚ) → IsTurning t → IsScaled t.row d → pivot_of t ≡ number_in d t.place → t.place < length d → (k : ℕ)
+    → IsOver (unsigned_abs t.pivot) t.row.most (number_in (turned t.place d) k)
 turned_scaled t d i s p h k =
     is_over _ (unsigned_abs t.pivot) t.row.most _ (size_above t.pivot i.some)
-    (sym (turned_number t.place (inverse_ℚ (number_in d t.place)) d k h refl) ∙ ap (λ u. cond (eqb k t.place) (inverse_ℚ u) (number_in d k *ℚ inverse_ℚ u)) (sym p) ∙ sym (turned_is t (eqb k t.place) (number_in d k) i (s.numbers k)))
+    (sym (turned_number t.place (inverse_ℚ (number_in d t.place)) d k h refl) ∙ ap (λ u. cond (eqb k t.place) (inverse_ℚ u) (number_in d k *ℚ inverse_ℚ u)) (sym p)
+    ∙ sym (turned_is t (eqb k t.place) (number_in d k) i (s.numbers k)))
     (turned_size t (eqb k t.place) (number_in d k) i (s.numbers k))
 
 -- no quotient is refused
 pub whole_passes : (i j : ℕ) (s : Turning) (d : List ℚ) (k : ℕ) → IsScaled s.row d → (number_in d j ≡ whole (pos 0) → ⊥) → turn_at i j d k ≡ None
 whole_passes i j s d k h n = let a = scaled_small s.row d h in other_none (eqb k j) _ (quotient_free (number_in d k) (number_in d j) i k n (a.small k) (a.small j))
 
-pub whole_fits : (t : Turning) (d : List ℚ) (k : ℕ) (own : Bool) (x : ℚ) → IsTurning t → IsOver t.row.denominator t.row.most x → FitsFrac (cond own (inverse_ℚ (pivot_of t)) (x *ℚ inverse_ℚ (pivot_of t)))
+pub whole_fits : (t : Turning) (d : List ℚ) (k : ℕ) (own : Bool) (x : ℚ) → IsTurning t → IsOver t.row.denominator t.row.most x
+    → FitsFrac (cond own (inverse_ℚ (pivot_of t)) (x *ℚ inverse_ℚ (pivot_of t)))
 whole_fits t d k own x i o =
     let z = is_over _ (unsigned_abs t.pivot) t.row.most _ (size_above t.pivot i.some) (sym (turned_is t own x i o)) (turned_size t own x i o) in
     over_fit (unsigned_abs t.pivot) t.row.most _ (size_above t.pivot i.some) i.size (omega (arith, i.short)) z
 
-pub scale_turned : (t : Turning) (s : Scale) (row : List ℚ) → IsTurning t → s.denominator ≡ unsigned_abs t.pivot → s.most ≡ t.row.most → ((k : ℕ) → IsOver (unsigned_abs t.pivot) t.row.most (number_in row k)) → IsScaled s row
+pub scale_turned : (t : Turning) (s : Scale) (row : List ℚ) → IsTurning t → s.denominator ≡ unsigned_abs t.pivot → s.most ≡ t.row.most
+    → ((k : ℕ) → IsOver (unsigned_abs t.pivot) t.row.most (number_in row k)) → IsScaled s row
 scale_turned t s row i d m n = record {
   above = subst (λ x. 0 < x) (sym d) (size_above t.pivot i.some);
   denominator = rw (d, m) i.size;

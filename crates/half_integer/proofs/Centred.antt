@@ -24,7 +24,8 @@ not_centred a s i red r c start tick e f g h k v =
     let halved : red / 2 + red / 2 ≡ red_ticks a s Outbound i = halves_of red f ∙ e in
     let value : r ≡ mod_ℤ (pos 0 -ℤ pos (red / 2) -ℤ red_start a s Outbound i) (cycle a s) = v ∙ ap (λ z. mod_ℤ (z -ℤ start) c) k
     ∙ ap (λ z. mod_ℤ (pos 0 -ℤ pos (red / 2) -ℤ z) c) h ∙ ap (λ n. mod_ℤ (pos 0 -ℤ pos (red / 2) -ℤ red_start a s Outbound i) n) g in (
-      (λ n at. (not_zero r).0 n (value ∙ ap (λ n. mod_ℤ (pos 0 -ℤ pos n -ℤ red_start a s Outbound i) (cycle a s)) (same_half (red / 2) at.half (red_ticks a s Outbound i) halved at.halved) ∙ at.begins)),
+      (λ n at. (not_zero r).0 n (value ∙ ap (λ n. mod_ℤ (pos 0 -ℤ pos n -ℤ red_start a s Outbound i) (cycle a s)) (same_half (red / 2) at.half (red_ticks a s Outbound i) halved at.halved)
+          ∙ at.begins)),
       (λ n. (not_zero r).1 (λ z. n (record { half = red / 2; halved = halved; begins = sym value ∙ z }))),
     )
 
@@ -86,5 +87,6 @@ pub later_even : (a : Street) (s : TimingRecord) (i red r c : ℕ) (start tick :
 unfolding is_later
 later_even a s i red r c start tick e f g h k v =
     let value : r ≡ since (cycle a s) (red_start a s Outbound i) (pos 0 -ℤ pos (red_ticks a s Outbound i / 2)) = v ∙ ap (λ z. mod_ℤ (z -ℤ start) c) k
-    ∙ ap (λ z. mod_ℤ (pos 0 -ℤ pos (red / 2) -ℤ z) c) h ∙ ap (λ n. mod_ℤ (pos 0 -ℤ pos (red / 2) -ℤ red_start a s Outbound i) n) g ∙ ap (λ n. mod_ℤ (pos 0 -ℤ pos (n / 2) -ℤ red_start a s Outbound i) (cycle a s)) e in
+    ∙ ap (λ z. mod_ℤ (pos 0 -ℤ pos (red / 2) -ℤ z) c) h ∙ ap (λ n. mod_ℤ (pos 0 -ℤ pos (red / 2) -ℤ red_start a s Outbound i) n) g
+    ∙ ap (λ n. mod_ℤ (pos 0 -ℤ pos (n / 2) -ℤ red_start a s Outbound i) (cycle a s)) e in
     ap (λ n. not (nat_eq n 0)) value ∙ even_test (red_ticks a s Outbound i % 2) _ (sym (ap (λ n. n % 2) e) ∙ f)

@@ -142,7 +142,7 @@ fn room(artery: &Artery, timing: &Timing, first: i128) -> Option<u128>
     }
 }
 
-/// The better of a band and the widest one on another line.
+/// The better of a band and the widest one on another line; of two that are as wide the first.
 fn better(
     artery: &Artery,
     timing: &Timing,
@@ -155,6 +155,7 @@ fn better(
     requires within { IsBandWithin best }
     ensures runs { IsRun artery.now timing.now result }
     ensures kept { reach best ≤ reach result }
+    ensures first { reach result ≡ reach best → result ≡ best }
     ensures tried { IsTried artery.now timing.now result first }
     ensures within { IsBandWithin result }
 {

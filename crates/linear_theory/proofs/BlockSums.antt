@@ -57,7 +57,8 @@ module _ (a : Street) (t : TimingRecord) (some_parts : 0 < a.head.parts) (some_u
       (less (less (less (plus (less (plus (plus (plus (less (less (plus
       (tick (wait a t Outbound i)) (tick (wait a t Inbound i))) (tick (wait a t Outbound (i + 1)))) (tick (wait a t Inbound (i + 1))))
       (tick (run t Outbound i))) (tick (run t Inbound i))) (tick (shift a t i * t.unit))) (tick (shift a t (i + 1) * t.unit)))
-      (parted a t some_parts some_unit (signal_of a i).red)) (parted a t some_parts some_unit (signal_of a (i + 1)).red)) (parted a t some_parts some_unit (clearance a Outbound (i + 1)))) (parted a t some_parts some_unit (clearance a Inbound i)))
+      (parted a t some_parts some_unit (signal_of a i).red)) (parted a t some_parts some_unit (signal_of a (i + 1)).red)) (parted a t some_parts some_unit (clearance a Outbound (i + 1))))
+      (parted a t some_parts some_unit (clearance a Inbound i)))
       (cycle_above a t some_parts some_unit) (omega arith)
 
   -- the block sum in shares is the whole number of cycles

@@ -55,7 +55,8 @@ module _ (a : Street) (box : Area) (t : TimingRecord) (c : Counts a box t) where
     pub loop_low_law : IsMet (point a t) (line a (loop_low_form a box i))
     loop_low_law =
         line_met a t (loop_low_form a box i) (some_signal a c.street) (block_in_order a i k minus_one (number 1))
-        (linear (record { count = 1; low = at 12; high = whole_term } ∷ []) 0 (cells_term less_one one) (constant_term ⊕ minus (at 12)) (block_values (whole (loop_span box i).least)) (sum_least, tt) refl)
+        (linear (record { count = 1; low = at 12; high = whole_term } ∷ []) 0 (cells_term less_one one) (constant_term ⊕ minus (at 12))
+        (block_values (whole (loop_span box i).least)) (sum_least, tt) refl)
 
     -- and at most its greatest
     pub loop_high_law : IsMet (point a t) (line a (loop_high_form a box i))

@@ -3,7 +3,8 @@ use Rattle.std.proofs.Common.{◌≡◌, ℕ, ◌+◌, ◌<◌, ◌≤◌, ◌�
 use Rattle.std.proofs.lemmas.Bool.{eqb-true}
 use Rattle.std.specs.Prelude.{◌==◌, ◌||◌}
 use Rattle.progression.specs.Street.{Street, count}
-use Rattle.linear_theory.specs.Names.{Name, NoRow, Family, families, last_family, row_among, name_of, FamilyOf, RowPosition, AtSignal, AtLink, AtChange, ByItself, AtRatio, AtLeast, AtEqual, Nowhere, HasRowPosition, rule_of, HasRow}
+use Rattle.linear_theory.specs.Names.{Name, NoRow, Family, families, last_family, row_among, name_of, FamilyOf, RowPosition, AtSignal, AtLink}
+use Rattle.linear_theory.specs.Names.{AtChange, ByItself, AtRatio, AtLeast, AtEqual, Nowhere, HasRowPosition, rule_of, HasRow}
 
 -- the family has one row alone
 abbrev pub lone_among : {N : Type 0} → ℕ → List (FamilyOf N) → ℕ → Bool

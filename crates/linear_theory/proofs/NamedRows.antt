@@ -10,7 +10,8 @@ use Rattle.progression.specs.Columns.{point}
 use Rattle.progression.specs.declared.parts.Pair.{Pair}
 use Rattle.linear_theory.specs.Boxes.{Area}
 use Rattle.linear_theory.specs.Rows.{Form, line, rise_form, drop_form}
-use Rattle.linear_theory.specs.Names.{Name, WaitRow, FastRow, SlowRow, RiseRow, DropRow, CycleLowRow, CycleHighRow, RatioRow, LoopLowRow, LoopHighRow, TurnLowRow, TurnHighRow, LeastRow, EqualLowRow, EqualHighRow, NoRow, HasRow, limits_form, form_of}
+use Rattle.linear_theory.specs.Names.{Name, WaitRow, FastRow, SlowRow, RiseRow, DropRow, CycleLowRow, CycleHighRow, RatioRow, LoopLowRow, LoopHighRow}
+use Rattle.linear_theory.specs.Names.{TurnLowRow, TurnHighRow, LeastRow, EqualLowRow, EqualHighRow, NoRow, HasRow, limits_form, form_of}
 use Rattle.linear_theory.specs.Counts.{Counts, IsGoodPoint}
 use Rattle.linear_theory.proofs.RowLaws.{wait_law, fast_law, slow_law, rise_law, drop_law, cycle_low_law, cycle_high_law, ratio_law, least_law, equal_low_law, equal_high_law}
 use Rattle.linear_theory.proofs.BoxRowLaws.{loop_low_law, loop_high_law, turn_low_law, turn_high_law}

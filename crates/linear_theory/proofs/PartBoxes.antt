@@ -50,10 +50,13 @@ module _ (a : Street) (box : Area) (b : IsBoxOf a box) where
   module _ (i : ℕ) (at : ℤ) (p : IsLoopPlace box i at) where
     -- the parts at a place in a link's span
     pub low_loop_boxed : IsBoxOf a (low_loop box i at)
-    low_loop_boxed = let m = p.3 in loop_boxed i _ p.0 (loop_inside box i at p) (narrower (root_span a i) (loop_span box i) _ _ (b.spans i (place_link a box i at b p)) p.2 (omega (arith, ints)) (omega (arith, ints)))
+    low_loop_boxed = let m = p.3 in loop_boxed i _ p.0 (loop_inside box i at p) (narrower (root_span a i) (loop_span box i) _ _ (b.spans i (place_link a box i at b p))
+        p.2 (omega (arith, ints)) (omega (arith, ints)))
 
     pub high_loop_boxed : IsBoxOf a (high_loop box i at)
-    high_loop_boxed = let l = p.2 in let m = p.3 in loop_boxed i _ p.0 (loop_inside box i at p) (narrower (root_span a i) (loop_span box i) _ _ (b.spans i (place_link a box i at b p)) (omega (arith, ints)) (omega (arith, ints)) (omega (arith, ints)))
+    high_loop_boxed = let l = p.2 in let m = p.3 in
+        loop_boxed i _ p.0 (loop_inside box i at p) (narrower (root_span a i) (loop_span box i) _ _ (b.spans i (place_link a box i at b p))
+        (omega (arith, ints)) (omega (arith, ints)) (omega (arith, ints)))
 
   module _ (i rank : ℕ) (p : IsTurnPlace box i rank) where
     -- the parts at a place in a signal's ranks

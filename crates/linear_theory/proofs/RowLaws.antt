@@ -18,7 +18,8 @@ use Rattle.progression.specs.declared.parts.Pair.{Pair}
 use Rattle.progression.specs.declared.parts.Dir.{Dir}
 use Rattle.progression.specs.declared.parts.Dir.TheVariants.{Outbound, Inbound}
 use Rattle.linear_theory.specs.Blocks.{green_part}
-use Rattle.linear_theory.specs.Rows.{line, wait_form, fast_form, slow_form, rise_form, drop_form, cycle_low_form, cycle_high_form, ratio_form, ratio_below_form, ratio_above_form, least_form, equal_low_form, equal_high_form}
+use Rattle.linear_theory.specs.Rows.{line, wait_form, fast_form, slow_form, rise_form, drop_form, cycle_low_form, cycle_high_form, ratio_form}
+use Rattle.linear_theory.specs.Rows.{ratio_below_form, ratio_above_form, least_form, equal_low_form, equal_high_form}
 use Rattle.linear_theory.proofs.Terms.{one, less_one, zero_term, fact}
 use Rattle.linear_theory.specs.Counts.{IsStreet}
 use Rattle.linear_theory.proofs.Points.{share}

@@ -42,7 +42,8 @@ module _ (a : Street) (p : 0 < a.head.parts) where
   constant_ratio i =
       let n = a.head.parts in
       rebase _ _ _ _ _ _ _
-      (less_ticks n p _ _ _ _ _ _ (less_ticks n p _ _ _ _ _ _ (less_ticks n p _ _ _ _ _ _ (part_ratio a p (signal_of a i).red) (part_ratio a p (signal_of a (i + 1)).red)) (part_ratio a p (clearance a Outbound (i + 1)))) (part_ratio a p (clearance a Inbound i)))
+      (less_ticks n p _ _ _ _ _ _ (less_ticks n p _ _ _ _ _ _ (less_ticks n p _ _ _ _ _ _ (part_ratio a p (signal_of a i).red) (part_ratio a p (signal_of a (i + 1)).red))
+      (part_ratio a p (clearance a Outbound (i + 1)))) (part_ratio a p (clearance a Inbound i)))
       p (scaled_parts (signal_of a i).red (signal_of a (i + 1)).red (clearance a Outbound (i + 1)) (clearance a Inbound i) n)
 
   -- the bound of a block sum's row below, for a number z of the box

@@ -71,4 +71,5 @@ pub shift_at_most : (a : Street) (i rank : ℕ) → shift_at a i rank ≤ (signa
 shift_at_most a i rank =
     let k = (signal_of a i).left_out + (signal_of a i).left_in in
     read_at_most k (shifts_of a i) rank
-    (with_at_most a i 4 k _ (pattern_shift_most a i 4) (with_at_most a i 3 k _ (pattern_shift_most a i 3) (with_at_most a i 2 k _ (pattern_shift_most a i 2) (with_at_most a i 1 k [] (pattern_shift_most a i 1) tt))))
+    (with_at_most a i 4 k _ (pattern_shift_most a i 4) (with_at_most a i 3 k _ (pattern_shift_most a i 3)
+    (with_at_most a i 2 k _ (pattern_shift_most a i 2) (with_at_most a i 1 k [] (pattern_shift_most a i 1) tt))))

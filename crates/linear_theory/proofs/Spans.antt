@@ -43,7 +43,8 @@ module _ (a : Street) (h : 0 < a.head.parts) where
   rest_ratio r = less_parts (one_cycle a.head.parts h) (parts r)
 
   -- a block sum with no runs
-  block_parts : (w w' v v' : ℚ) (p1 n1 p2 n2 p3 n3 p4 n4 r5 r6 r k k' l : ℕ) → IsRatio w p1 n1 a.head.parts → IsRatio w' p2 n2 a.head.parts → IsRatio v p3 n3 a.head.parts → IsRatio v' p4 n4 a.head.parts
+  block_parts : (w w' v v' : ℚ) (p1 n1 p2 n2 p3 n3 p4 n4 r5 r6 r k k' l : ℕ) → IsRatio w p1 n1 a.head.parts → IsRatio w' p2 n2 a.head.parts
+      → IsRatio v p3 n3 a.head.parts → IsRatio v' p4 n4 a.head.parts
       → IsRatio (block_of w w' v v' (number 0) (number 0) (part a r5) (part a r6) (part a r) (part a k) (part a k') (part a l))
       (p1 + p2 + n3 + n4 + r5 + r) (n1 + n2 + p3 + p4 + r6 + k + k' + l) a.head.parts
   block_parts w w' v v' p1 n1 p2 n2 p3 n3 p4 n4 r5 r6 r k k' l e1 e2 e3 e4 =
@@ -57,7 +58,8 @@ module _ (a : Street) (h : 0 < a.head.parts) where
   least_sum_is i =
       split_runs _ _ _ _ _ _ _ _ _ _ _ _
       ∙ ap (λ x. x +ℚ run_least a Outbound i +ℚ run_least a Inbound i)
-      (differs _ _ _ _ (block_parts _ _ _ _ _ _ _ _ _ _ _ _ _ _ _ _ _ _ (nothing a.head.parts h) (nothing a.head.parts h) (rest_ratio (red_parts a Outbound (i + 1))) (rest_ratio (red_parts a Inbound (i + 1))))
+      (differs _ _ _ _ (block_parts _ _ _ _ _ _ _ _ _ _ _ _ _ _ _ _ _ _ (nothing a.head.parts h) (nothing a.head.parts h) (rest_ratio (red_parts a Outbound (i + 1)))
+      (rest_ratio (red_parts a Inbound (i + 1))))
       ∙ ap (λ z. over z a.head.parts) (omega (arith, ints)))
 
   -- and the greatest its parts and the two greatest

@@ -72,11 +72,13 @@ turns_at a t i =
 
 -- the waits, the common red and the shift at signal i, and these cycles, reach from the inbound band's edge to the outbound line
 balance : (a : Street) (t : TimingRecord) (i : ℕ) → 0 < cycle a t → IsTrue (allows a i (pattern_of t i))
-    → pos (wait a t Outbound i + wait a t Inbound i + ((signal_of a i).red + shift a t i) * t.unit) +ℤ turns_at a t i *ℤ pos (cycle a t) ≡ line_at a t Outbound i -ℤ line_at a t Inbound i -ℤ pos t.band_in
+    → pos (wait a t Outbound i + wait a t Inbound i + ((signal_of a i).red + shift a t i) * t.unit) +ℤ turns_at a t i *ℤ pos (cycle a t) ≡ line_at a t
+    Outbound i -ℤ line_at a t Inbound i -ℤ pos t.band_in
 balance a t i h w =
     let e = split_ℤ (line_at a t Outbound i -ℤ (red_start a t Outbound i +ℤ pos (red_ticks a t Outbound i))) (cycle a t) h in
     let f = split_ℤ (red_start a t Inbound i -ℤ line_at a t Inbound i -ℤ pos t.band_in) (cycle a t) h in
-    let d = +ℤ-*ℤ (quot_ℤ (line_at a t Outbound i -ℤ (red_start a t Outbound i +ℤ pos (red_ticks a t Outbound i))) (cycle a t)) (quot_ℤ (red_start a t Inbound i -ℤ line_at a t Inbound i -ℤ pos t.band_in) (cycle a t)) (pos (cycle a t)) in
+    let d = +ℤ-*ℤ (quot_ℤ (line_at a t Outbound i -ℤ (red_start a t Outbound i +ℤ pos (red_ticks a t Outbound i))) (cycle a t))
+    (quot_ℤ (red_start a t Inbound i -ℤ line_at a t Inbound i -ℤ pos t.band_in) (cycle a t)) (pos (cycle a t)) in
     let g = ends a t i w in
     omega (arith, ints, e, f, d, g)
 

@@ -79,7 +79,8 @@ module _ (c red : ℕ) (s x : ℤ) (b : ℕ) (h : 2 ≤ red) (l : red < c) where
       elim (cases_eq (wait_before c s x b + b) 0) [
         | inl z ↦ let r : since c s x ≡ 0 = mod_unique (x -ℤ s) (neg_ℤ (quot_ℤ (s -ℤ x -ℤ pos b) c)) c 0 (omega (arith, ints, e, n)) (omega arith) in
             record { free = inl (r, omega arith); room = omega arith }
-        | inr z ↦ let r : since c s x ≡ c - wait_before c s x b - b = mod_unique (x -ℤ s) (neg_ℤ (quot_ℤ (s -ℤ x -ℤ pos b) c) +ℤ negsuc 0) c (c - wait_before c s x b - b) (omega (arith, ints, e, n, d)) (omega arith) in
+        | inr z ↦ let r : since c s x ≡ c - wait_before c s x b - b = mod_unique (x -ℤ s) (neg_ℤ (quot_ℤ (s -ℤ x -ℤ pos b) c) +ℤ negsuc 0) c
+            (c - wait_before c s x b - b) (omega (arith, ints, e, n, d)) (omega arith) in
             record { free = inr (omega arith); room = omega arith }
       ]
 

@@ -21,12 +21,15 @@ halves_then line base = halves_at line base base.1 >>= λ halves. Ok (with_halve
 
 halves_read : (line : ℕ) → ReadsOn (one_and (line + 7)) (line + 7) (one_and (line + 9)) (halves_then line)
 halves_read line =
-    let read = reads_rest (one_and (line + 7)) (line + 7) (two_and (line + 7 + 2)) (halves_at line) (λ base. ways_read half_out_key half_in_key (line + 7) (length (base.0 0 0).patterns - 1)) (λ base z. refl) in
-    reads_made (one_and (line + 7)) (line + 7) (two_and (line + 7 + 2)) (one_and (line + 9)) (λ base. halves_at line base base.1) (λ base halves. (with_halves (base.0 0 0) halves.0 halves.1, halves.2)) read (λ base halves. omega arith) (λ base halves. refl) (λ base halves z. refl)
+    let read = reads_rest (one_and (line + 7)) (line + 7) (two_and (line + 7 + 2)) (halves_at line) (λ base. ways_read half_out_key half_in_key (line + 7) (length (base.0 0 0).patterns - 1))
+    (λ base z. refl) in
+    reads_made (one_and (line + 7)) (line + 7) (two_and (line + 7 + 2)) (one_and (line + 9)) (λ base. halves_at line base base.1)
+    (λ base halves. (with_halves (base.0 0 0) halves.0 halves.1, halves.2)) read (λ base halves. omega arith) (λ base halves. refl) (λ base halves z. refl)
 
 link_read : (line : ℕ) → Reads line (one_and (line + 9)) (link_plan_at line)
 unfolding link_plan_at
-link_read line = reads_then (after_line line) line (one_and (line + 7)) (line + 7) (one_and (line + 9)) (base_at line) (λ bytes. halves_then line) (base_read line) (λ bytes. halves_read line) (λ base. refl) (λ bytes z. refl)
+link_read line = reads_then (after_line line) line (one_and (line + 7)) (line + 7) (one_and (line + 9)) (base_at line) (λ bytes. halves_then line)
+    (base_read line) (λ bytes. halves_read line) (λ base. refl) (λ bytes z. refl)
 
 pub link_laws : TimingLaws link_bands
 link_laws = record { takes = link_takes; again = link_again; reads = link_read }

@@ -22,8 +22,10 @@ halves_fit line patterns halves some s = record {
 }
 
 -- the numbers that the code read
-pub link_fits : (line : ℕ) (bytes rest more : List ℕ) (grid unit : ℕ) (patterns reds run_out run_in : List ℕ) (first_out first_in : ℕ) (half_out half_in : List ℕ) → base_at line bytes ≡ Ok (plan_of grid unit patterns reds run_out run_in first_out first_in, rest)
-    → both_ways_at half_out_key half_in_key (line + 7) (length patterns - 1) rest ≡ Ok (half_out, half_in, more) → IsLinkTiming grid unit patterns reds run_out run_in first_out first_in half_out half_in
+pub link_fits : (line : ℕ) (bytes rest more : List ℕ) (grid unit : ℕ) (patterns reds run_out run_in : List ℕ) (first_out first_in : ℕ) (half_out half_in : List ℕ)
+    → base_at line bytes ≡ Ok (plan_of grid unit patterns reds run_out run_in first_out first_in, rest)
+    → both_ways_at half_out_key half_in_key (line + 7) (length patterns - 1) rest ≡ Ok (half_out, half_in, more)
+    → IsLinkTiming grid unit patterns reds run_out run_in first_out first_in half_out half_in
 link_fits line bytes rest more grid unit patterns reds run_out run_in first_out first_in half_out half_in e f =
     let base = base_fits line bytes rest grid unit patterns reds run_out run_in first_out first_in 0 0 e (omega arith) (omega arith) in
     let ways = ways_take half_out_key half_in_key (line + 7) (length patterns - 1) rest (half_out, half_in, more) f in
@@ -37,7 +39,8 @@ link_fits line bytes rest more grid unit patterns reds run_out run_in first_out 
 pub link_takes : (line : ℕ) (bytes : List ℕ) (x : LinkRecord × List ℕ) → link_plan_at line bytes ≡ Ok x → IsTextOf link_bands bytes x
 unfolding link_plan_at
 link_takes line bytes x e =
-    let a = bind_ok (base_at line bytes) (λ base. both_ways_at half_out_key half_in_key (line + 7) (length (base.0 0 0).patterns - 1) base.1 >>= λ halves. Ok (with_halves (base.0 0 0) halves.0 halves.1, halves.2)) x e in
+    let a = bind_ok (base_at line bytes) (λ base. both_ways_at half_out_key half_in_key (line + 7) (length (base.0 0 0).patterns - 1) base.1 >>= λ halves.
+    Ok (with_halves (base.0 0 0) halves.0 halves.1, halves.2)) x e in
     let t : TimingRecord = a.0.0 0 0 in
     let b = bind_ok (both_ways_at half_out_key half_in_key (line + 7) (length t.patterns - 1) a.0.1) (λ halves. Ok (with_halves t halves.0 halves.1, halves.2)) x a.2 in
     let base = base_takes line bytes a.0 a.1 in
@@ -60,5 +63,7 @@ link_again line t rest held =
     let out = held.half_out.count in
     let in' = held.half_in.count in
     let first = base_again line (lines t) (spelled half_out_key t.half_out ++ 10 ∷ (spelled half_in_key t.half_in ++ 10 ∷ rest)) held.lines in
-    let second = ways_again half_out_key half_in_key (line + 7) links t.half_out t.half_in rest (record { spaces = refl; feeds = refl }) (record { spaces = refl; feeds = refl }) (suits_small (line + 7) t.half_out links (omega arith) held.half_out.each) (suits_small (line + 7 + 1) t.half_in links (omega arith) held.half_in.each) in
+    let second = ways_again half_out_key half_in_key (line + 7) links t.half_out t.half_in rest (record { spaces = refl; feeds = refl })
+    (record { spaces = refl; feeds = refl }) (suits_small (line + 7) t.half_out links (omega arith) held.half_out.each)
+    (suits_small (line + 7 + 1) t.half_in links (omega arith) held.half_in.each) in
     rw (first, second) (ap (λ (p : TimingRecord). Ok (with_halves p t.half_out t.half_in, rest)) (held_is (lines t) held.lines))

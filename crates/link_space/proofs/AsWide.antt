@@ -313,7 +313,8 @@ module _ (a : Street) (t : LinkRecord) (valid : IsValid a) (bare : plain a ≡ a
   way_there (suc (suc j)) l = absurd (omega (arith, l, two))
 
   -- the far signal comes first on the way back
-  stop_back : (j i : ℕ) → count a - j ≡ i → BandIsGreen (cycle a timing) (red_start a timing Inbound i) (red_ticks a timing Inbound i) (crossing a timing Inbound j) (back_in * 2) → IsGreenAt a timing Inbound j
+  stop_back : (j i : ℕ) → count a - j ≡ i → BandIsGreen (cycle a timing) (red_start a timing Inbound i) (red_ticks a timing Inbound i) (crossing a timing Inbound j) (back_in * 2)
+      → IsGreenAt a timing Inbound j
   stop_back j i e g = subst (λ k. BandIsGreen (cycle a timing) (red_start a timing Inbound k) (red_ticks a timing Inbound k) (crossing a timing Inbound j) (back_in * 2)) (sym e) g
 
   line_back : (i j : ℕ) → count a - i ≡ j → line_at a (lines t) Inbound i -ℤ pos back_in ≡ crossing a timing Inbound j

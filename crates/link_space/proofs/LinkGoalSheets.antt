@@ -87,6 +87,7 @@ module _ (a : Street) (two : 2 ≤ count a) where
       (ap (λ us. zeros ++ (links v ++ us)) (sym (append-nil (links (number 0)))) ∙ sym (append_assoc zeros (links v) (links (number 0) ++ []))) (omega arith)
       ∙ ap sheet (append_assoc zeros (links v) (links u ++ []) ∙ ap (λ us. zeros ++ (links v ++ us)) (append-nil (links u)))
 
-  pub goal_is : with_run (half_place (count a) Inbound 1) (count a - 1) (number 2 *ℚ a.head.ratio) (with_run (half_place (count a) Outbound 1) (count a - 1) (number 2) (blank (link_width (count a)))) ≡ link_goal_sheet a
+  pub goal_is : with_run (half_place (count a) Inbound 1) (count a - 1) (number 2 *ℚ a.head.ratio)
+      (with_run (half_place (count a) Outbound 1) (count a - 1) (number 2) (blank (link_width (count a)))) ≡ link_goal_sheet a
   goal_is =
       ap (with_run (half_place (count a) Inbound 1) (count a - 1) (number 2 *ℚ a.head.ratio)) (outbound_put (number 2)) ∙ inbound_put (number 2) (number 2 *ℚ a.head.ratio)

@@ -17,7 +17,8 @@ use Rattle.linear_theory.specs.Places.{value_at}
 use Rattle.linear_theory.specs.Blocks.{green_part}
 use Rattle.linear_theory.specs.Boxes.{Area}
 use Rattle.linear_theory.specs.Rows.{line, wait_form, ratio_form, ratio_below_form, ratio_above_form}
-use Rattle.linear_theory.specs.Names.{Name, WaitRow, FastRow, SlowRow, RiseRow, DropRow, CycleLowRow, CycleHighRow, RatioRow, LoopLowRow, LoopHighRow, TurnLowRow, TurnHighRow, LeastRow, EqualLowRow, EqualHighRow, NoRow, HasRow, form_of}
+use Rattle.linear_theory.specs.Names.{Name, WaitRow, FastRow, SlowRow, RiseRow, DropRow, CycleLowRow, CycleHighRow, RatioRow, LoopLowRow, LoopHighRow}
+use Rattle.linear_theory.specs.Names.{TurnLowRow, TurnHighRow, LeastRow, EqualLowRow, EqualHighRow, NoRow, HasRow, form_of}
 use Rattle.linear_theory.proofs.Terms.{one, less_one, zero_term}
 use Rattle.linear_theory.proofs.SparseSums.{line_total}
 use Rattle.linear_theory.proofs.PlacedRows.{narrowed_met, met_placed}

@@ -54,7 +54,8 @@ module _ (a : Street) (t : LinkRecord) (h : IsStreet a) (g : GoodLinks a t) wher
   link_point_not_negative =
       let p = g.plan.lines in let u = p.unit in
       let some : (k : ℕ) → number 0 ≤ℚ share a (lines t) k = λ k. share_not_negative a (lines t) (parts_above a h) (omega arith) k in
-      joined_not_negative (point a (lines t)) (map (share a (lines t)) t.half_out ++ map (share a (lines t)) t.half_in) (subst AllNonNegative (same_point a (lines t)) (point_not_negative (plain a) (lines t) (plain_street a h) (good_lines a t h g)))
+      joined_not_negative (point a (lines t)) (map (share a (lines t)) t.half_out ++ map (share a (lines t)) t.half_in)
+      (subst AllNonNegative (same_point a (lines t)) (point_not_negative (plain a) (lines t) (plain_street a h) (good_lines a t h g)))
       (joined_not_negative (map (share a (lines t)) t.half_out) (map (share a (lines t)) t.half_in) (shares_of_ticks a (lines t) some t.half_out) (shares_of_ticks a (lines t) some t.half_in))
 
   -- the goal at the point
@@ -66,6 +67,7 @@ module _ (a : Street) (t : LinkRecord) (h : IsStreet a) (g : GoodLinks a t) wher
       ∙ ap₂ (λ u v. u +ℚ v) (dot-zeros (width n) (point a p))
       (dot-append (replicate (n - 1) (number 2)) (replicate (n - 1) (number 2 *ℚ k)) (map (share a p) t.half_out) (map (share a p) t.half_in)
       (length-replicate (n - 1) (number 2) ∙ sym (length-map t.half_out (share a p) ∙ halves_out a t g.plan g.base.shape h.signals))
-      ∙ ap₂ (λ u v. u +ℚ v) (dot_shares a p (number 2) t.half_out (n - 1) (halves_out a t g.plan g.base.shape h.signals)) (dot_shares a p (number 2 *ℚ k) t.half_in (n - 1) (halves_in a t g.plan g.base.shape h.signals)))
+      ∙ ap₂ (λ u v. u +ℚ v) (dot_shares a p (number 2) t.half_out (n - 1) (halves_out a t g.plan g.base.shape h.signals))
+      (dot_shares a p (number 2 *ℚ k) t.half_in (n - 1) (halves_in a t g.plan g.base.shape h.signals)))
       ∙ ring (lit (pos 0) ⊕ (lit (pos 2) ⊗ (at 0 ⊗ at 3) ⊕ (lit (pos 2) ⊗ at 1) ⊗ (at 2 ⊗ at 3))) ((lit (pos 2) ⊗ (at 0 ⊕ at 1 ⊗ at 2)) ⊗ at 3)
       (number (sum t.half_out) ∷ k ∷ number (sum t.half_in) ∷ inverse_ℚ (number (cycle a p)) ∷ []) refl

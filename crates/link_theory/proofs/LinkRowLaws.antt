@@ -117,17 +117,19 @@ module _ (a : Street) (t : LinkRecord) (h : IsStreet a) (p : IsLinkRecord t) (s 
               (rw (← (ratio_sum (neg_ℚ a.head.ratio) (number 1))) (met_placed (link_width (count a)) (half_cells a i (neg_ℚ a.head.ratio) (number 1)) (number 0) (link_point a t) r m), tt) refl,
           λ l. placed_met (link_width (count a)) (half_cells a i (neg_ℚ a.head.ratio) (number 1)) (number 0) (link_point a t) r
               (rw (ratio_sum (neg_ℚ a.head.ratio) (number 1))
-              (linear (record { count = 1; low = at 2; high = at 0 ⊗ at 1 } ∷ []) 0 (minus (at 0) ⊗ at 1 ⊕ (one ⊗ at 2 ⊕ zero_term)) zero_term (a.head.ratio ∷ out_share ∷ in_share ∷ []) (l, tt) refl)),
+              (linear (record { count = 1; low = at 2; high = at 0 ⊗ at 1 } ∷ []) 0 (minus (at 0) ⊗ at 1 ⊕ (one ⊗ at 2 ⊕ zero_term)) zero_term
+              (a.head.ratio ∷ out_share ∷ in_share ∷ []) (l, tt) refl)),
         )
 
     -- the halves keep the rule of the ratio exactly where the point meets its row, if there is one
     pub link_ratio_law : RatioHolds a.head.ratio (half t Outbound i) (half t Inbound i) ↔ (a.head.ratio ≢ number 1 → IsMet (link_point a t) (link_line a (link_ratio_form a i)))
     link_ratio_law =
         let c = some_cycle a t h p.lines.unit in (
-          λ r n. elim (is_lt (cmp_ℚ a.head.ratio (number 1))) as (λ b. b ≡ is_lt (cmp_ℚ a.head.ratio (number 1)) → IsMet (link_point a t) (link_line a (if b then link_below_form a i else link_above_form a i))) [
-            | true ↦ λ e. below_rule.1 ((below_shares a.head.ratio _ _ (cycle a (lines t)) c (lt_true a.head.ratio (number 1) e)).0 r)
-            | false ↦ λ e. above_rule.1 ((above_shares a.head.ratio _ _ (cycle a (lines t)) c (not-≤ℚ _ _ (λ l. n (≤ℚ_antisymm _ _ l (lt_false a.head.ratio (number 1) e))))).0 r)
-          ] refl,
+          λ r n. elim (is_lt (cmp_ℚ a.head.ratio (number 1))) as (λ b. b ≡ is_lt (cmp_ℚ a.head.ratio (number 1))
+              → IsMet (link_point a t) (link_line a (if b then link_below_form a i else link_above_form a i))) [
+                | true ↦ λ e. below_rule.1 ((below_shares a.head.ratio _ _ (cycle a (lines t)) c (lt_true a.head.ratio (number 1) e)).0 r)
+                | false ↦ λ e. above_rule.1 ((above_shares a.head.ratio _ _ (cycle a (lines t)) c (not-≤ℚ _ _ (λ l. n (≤ℚ_antisymm _ _ l (lt_false a.head.ratio (number 1) e))))).0 r)
+              ] refl,
           λ m. ratio_from a.head.ratio (half t Outbound i) (half t Inbound i) (link_below_form a i) (link_above_form a i) (λ f. IsMet (link_point a t) (link_line a f))
               (λ w q. (below_shares a.head.ratio _ _ (cycle a (lines t)) c w).1 (below_rule.0 q))
               (λ w q. (above_shares a.head.ratio _ _ (cycle a (lines t)) c w).1 (above_rule.0 q)) m,

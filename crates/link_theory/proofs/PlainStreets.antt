@@ -16,7 +16,8 @@ use Rattle.progression.specs.declared.parts.Dir.{Dir}
 use Rattle.progression.specs.declared.parts.Dir.TheVariants.{Outbound, Inbound}
 use Rattle.linear_theory.specs.Blocks.{block_sum}
 use Rattle.linear_theory.specs.Boxes.{Area, IsRoot, IsBoxOf, LoopIn, TurnIn, InBox}
-use Rattle.linear_theory.specs.Names.{Name, WaitRow, FastRow, SlowRow, RiseRow, DropRow, CycleLowRow, CycleHighRow, RatioRow, LoopLowRow, LoopHighRow, TurnLowRow, TurnHighRow, LeastRow, EqualLowRow, EqualHighRow, NoRow, HasRow, form_of}
+use Rattle.linear_theory.specs.Names.{Name, WaitRow, FastRow, SlowRow, RiseRow, DropRow, CycleLowRow, CycleHighRow, RatioRow, LoopLowRow, LoopHighRow}
+use Rattle.linear_theory.specs.Names.{TurnLowRow, TurnHighRow, LeastRow, EqualLowRow, EqualHighRow, NoRow, HasRow, form_of}
 use Rattle.linear_theory.specs.Counts.{IsStreet}
 use Rattle.linear_theory.proofs.Points.{share}
 use Rattle.link_theory.specs.Plain.{plain}

@@ -18,9 +18,11 @@ module _ (a : Street) (t : LinkRecord) (h : IsStreet a) (u : 2 ≤ t.unit) where
   pub around : (d : Dir) (i k : ℕ) → HasSignal a i
       → IsGreenAround a t d i k ↔ ((k ≤ wait a (lines t) d i) × (wait a (lines t) d i + k ≤ cycle a (lines t) - red_ticks a (lines t) d i))
   around Outbound i k s =
-      around_after (cycle a (lines t)) (red_ticks a (lines t) Outbound i) (red_start a (lines t) Outbound i) (line_at a (lines t) Outbound i) k (red_some a (lines t) h u Outbound i s) (red_less a (lines t) h u Outbound i s)
+      around_after (cycle a (lines t)) (red_ticks a (lines t) Outbound i) (red_start a (lines t) Outbound i) (line_at a (lines t) Outbound i) k
+      (red_some a (lines t) h u Outbound i s) (red_less a (lines t) h u Outbound i s)
   around Inbound i k s =
-      around_before (cycle a (lines t)) (red_ticks a (lines t) Inbound i) (red_start a (lines t) Inbound i) (line_at a (lines t) Inbound i) k (red_some a (lines t) h u Inbound i s) (red_less a (lines t) h u Inbound i s)
+      around_before (cycle a (lines t)) (red_ticks a (lines t) Inbound i) (red_start a (lines t) Inbound i) (line_at a (lines t) Inbound i) k
+      (red_some a (lines t) h u Inbound i s) (red_less a (lines t) h u Inbound i s)
 
   -- a line is green where its surroundings are
   pub line_in : (d : Dir) (i k : ℕ) → HasSignal a i → IsGreenAround a t d i k

@@ -1,5 +1,6 @@
 -- The sum of a leaf's rows, row by row.
-use Rattle.std.proofs.Common.{◌≡◌, ℕ, suc, zero, replicate, arith, ◌+◌, drop, get_or, add-one, drop-cons, List, [], ◌∷◌, Bool, true, false, not, Option, Some, None, map, length, refl, sym, ◌∙◌, ap, ap₂, ◌<◌}
+use Rattle.std.proofs.Common.{◌≡◌, ℕ, suc, zero, replicate, arith, ◌+◌, drop, get_or, add-one, drop-cons, List, [], ◌∷◌, Bool, true, false, not}
+use Rattle.std.proofs.Common.{Option, Some, None, map, length, refl, sym, ◌∙◌, ap, ap₂, ◌<◌}
 use Rattle.std.specs.Bool.{Decides}
 use Rattle.std.specs.Ordering.{is_lt}
 use Rattle.std.proofs.lemmas.Bool.Decides.{same_from_decides}
@@ -31,7 +32,8 @@ use Rattle.named_row.specs.declared.wide_at.WideAt.{WideAt}
 use Rattle.loop_rows.specs.laws.Writing.{written_row, written_width}
 use Rattle.loop_rows.specs.RowTests.{has_row}
 use Rattle.loop_rows.proofs.RowTests.{row_decided}
-use Rattle.loop_rows.specs.Weights.{Source, artery_rows, with_name, with_weights, first_fault_with, named, name_at, wide_fault, leaf_total, leaf_fault, IsFirstFault, fault_of, fault_with, total_of, with_weight}
+use Rattle.loop_rows.specs.Weights.{Source, artery_rows, with_name, with_weights, first_fault_with, named, name_at, wide_fault, leaf_total}
+use Rattle.loop_rows.specs.Weights.{leaf_fault, IsFirstFault, fault_of, fault_with, total_of, with_weight}
 use Rattle.loop_rows.specs.declared.fault.SumFault.{SumFault}
 use Rattle.loop_rows.specs.declared.fault.SumFault.TheVariants.{NoSuchRow, Negative, Wide, Memory}
 

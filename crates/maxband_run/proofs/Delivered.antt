@@ -101,7 +101,8 @@ some_put (Some put) s e = absurd cc
 
 module _ (held : List ℕ → Option (List ℕ)) (before after : List ℕ → ℕ) (asked : Option Request) (c : Cause) (lines : List ℕ) (put : Option Put) where
   -- where memory was wanting no read had failed
-  pub wanted_counts : (room : ℕ) → Answers held before after asked c lines (option_map view put) → IsRoomForFaults (shape asked).inputs room → (room < length lines) ⊎ IsSome put → SameCounts before after
+  pub wanted_counts : (room : ℕ) → Answers held before after asked c lines (option_map view put) → IsRoomForFaults (shape asked).inputs room
+      → (room < length lines) ⊎ IsSome put → SameCounts before after
   wanted_counts room (inr h) few w = h.counts
   wanted_counts room (inl h) few (inr some) = absurd (some_put put some h.no_put)
   wanted_counts room (inl h) few (inl more) = elim (stops_room held before after (shape asked).inputs 1 room c lines few h.stops) [

@@ -20,7 +20,7 @@ use Rattle.run_inputs.specs.Status.{number_of, IsReached}
 use Rattle.run_commands.specs.Bands.{BandsFinds}
 use Rattle.run_commands.specs.Round.{RoundFinds, RoundFromFinds}
 use Rattle.run_commands.specs.Half.{HalfFinds}
-use Rattle.run_commands.specs.Typed.{WritesTiming, TypedFinds}
+use Rattle.run_commands.specs.Typed.{TypedFinds}
 use Rattle.run_commands.specs.Draw.{DrawFinds}
 use Rattle.maxband_run.specs.Run.{Finds}
 use Rattle.run_inputs.specs.declared.cause.Cause.{Cause}
@@ -80,13 +80,8 @@ half_reached a t (cause.Fails f) l bytes h = tt
 half_reached a t (cause.Unmatched e) l bytes h = tt
 half_reached a t c l bytes h = absurd h
 
-writes_reached : (a : Street) (t : TimingRecord) (c : Cause) (l : List ℕ) (bytes : Option (List ℕ)) → WritesTiming a t c l bytes → IsReached c
-writes_reached a t cause.Done l bytes h = tt
-writes_reached a t (cause.Fails f) l bytes h = tt
-writes_reached a t c l bytes h = absurd h
-
 typed_reached : (a : Street) (p : Typed) (c : Cause) (l : List ℕ) (bytes : Option (List ℕ)) → TypedFinds a p c l bytes → IsReached c
-typed_reached a p c l bytes (inl h) = writes_reached a h.timing c l bytes h.finds
+typed_reached a p c l bytes (inl h) = subst (λ (d : Cause). IsReached d) (sym h.finds.0) tt
 typed_reached a p c l bytes (inr (inl h)) = subst (λ (d : Cause). IsReached d) (sym h.cause_is) tt
 typed_reached a p c l bytes (inr (inr h)) = subst (λ (d : Cause). IsReached d) (sym h.cause_is) tt
 

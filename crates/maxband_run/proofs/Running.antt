@@ -20,7 +20,8 @@ module _ (before mid now : Outside) (read : IsRead before mid) (same : SameCount
 
   pub run_done : (status : Cause) → status ≡ c → IsDone mid now passed (option_map view put) → Ends before now asked status
   run_done status e d = subst (λ (s : Cause). Ends before now asked s) (sym e)
-      (done_ends before now asked c lines (option_map view put) answer (done_since before mid now read lines (option_map view put) (subst (λ (l : List ℕ). IsDone mid now l (option_map view put)) is d)))
+      (done_ends before now asked c lines (option_map view put) answer (done_since before mid now read lines (option_map view put)
+      (subst (λ (l : List ℕ). IsDone mid now l (option_map view put)) is d)))
 
   pub run_broken : (status : Cause) → status ≡ cause.WriteFault → IsBroken mid now passed (option_map view put) → Ends before now asked status
   run_broken status e b = subst (λ (s : Cause). Ends before now asked s) (sym e)

@@ -22,6 +22,7 @@ counted before now asked file h = elim h.2 [
   | inr f ↦ absurd (finds_reached asked f.values (cause.ReadFault file) h.0 f.bytes f.finds)
 ]
 
-pub no_read_fault : (before now : Outside) (asked : Option Request) (c : Cause) → ((name : List ℕ) → before.reads name ≡ 0) → ((name : List ℕ) → now.reads name ≡ 0) → Ends before now asked c → number_of c ≢ 6
+pub no_read_fault : (before now : Outside) (asked : Option Request) (c : Cause) → ((name : List ℕ) → before.reads name ≡ 0) → ((name : List ℕ) → now.reads name ≡ 0)
+    → Ends before now asked c → number_of c ≢ 6
 no_read_fault before now asked (cause.ReadFault file) b n h e = let r = counted before now asked file h in absurd (omega (arith, b r.0, n r.0, r.1))
 no_read_fault before now asked c b n h e = absurd cc

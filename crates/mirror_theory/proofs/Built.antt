@@ -106,7 +106,8 @@ module _ (a : Street) (t : TimingRecord) (v : IsValid a) (u : 2 ≤ t.unit) (eve
       let d = *ℤ-+ℤ (way a t Outbound j) (pos 1) (pos 1) in
       rw one (omega (arith, ints, e, d))
 
-  red_from : (i : ℕ) (at : HasSignal a i) → red_start a s Outbound i ≡ pos (phase_of a t x i) -ℤ pos (red_ticks a t Outbound i) +ℤ quot_ℤ (red_start a s Outbound i -ℤ (pos (phase_of a t x i) -ℤ pos (red_ticks a t Outbound i))) twice *ℤ pos twice
+  red_from : (i : ℕ) (at : HasSignal a i) → red_start a s Outbound i ≡ pos (phase_of a t x i) -ℤ pos (red_ticks a t Outbound i) +ℤ quot_ℤ
+      (red_start a s Outbound i -ℤ (pos (phase_of a t x i) -ℤ pos (red_ticks a t Outbound i))) twice *ℤ pos twice
   red_from i at = cycles_from twice _ _ some (h.reds i at)
 
   -- the band leaves room at signal i

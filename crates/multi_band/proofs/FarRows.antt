@@ -70,6 +70,7 @@ module _ (a : Street) where
           let q = eq_false a.head.ratio (number 1) (sym e) in
           family_rows 29 (count a - 1) (ratio_other_rows q) (omega arith) ∙ ap (λ n. through 29 + n) (sym (g q))
 
-  pub rows_from : (d : Dir) (k : ℕ) → (a.head.ratio ≡ number 1 → k ≡ 0) → (a.head.ratio ≢ number 1 → k ≡ count a - 1) → length (names_of_links a) ≡ rows_before a d + (families_from d * (count a - 1) + k)
+  pub rows_from : (d : Dir) (k : ℕ) → (a.head.ratio ≡ number 1 → k ≡ 0) → (a.head.ratio ≢ number 1 → k ≡ count a - 1)
+      → length (names_of_links a) ≡ rows_before a d + (families_from d * (count a - 1) + k)
   rows_from Outbound k f g = let e = all_rows k f g in let b = ends_from in omega (arith, e, b)
   rows_from Inbound k f g = let e = all_rows k f g in let b = ends_from in let c = between in omega (arith, e, b, c)

@@ -30,7 +30,8 @@ leaf_proof a None box leaf h = h
 leaf_proof a (Some value) box leaf (inl h) = record { there = h.there; fits = h.fits; keeps = inr h.keeps }
 leaf_proof a (Some value) box leaf (inr h) = h
 
-accepted_by : (a : Street) (c : LinkWarrant) → IsLinkTimed a c.timing (value_of c.claim) → IsBoundAbove c.claim → ProveAll (IsLinkLeaf a (limit_of c.claim)) (root_box a ∷ []) c.nodes → IsLinkAccepted a c
+accepted_by : (a : Street) (c : LinkWarrant) → IsLinkTimed a c.timing (value_of c.claim) → IsBoundAbove c.claim → ProveAll (IsLinkLeaf a (limit_of c.claim)) (root_box a ∷ []) c.nodes
+    → IsLinkAccepted a c
 accepted_by a c timing bound tree = record { timing = timing; bound = bound; tree = tree }
 
 pub links_can_be_sought : (a : Street) → IsValid a → CanBeSought (link_bands a)

@@ -1,6 +1,7 @@
 -- No pivot of the opening of links leaves 128 bits: the rows that have a cell at a half are a few parts of the cycle, and so is the ratio, over a denominator in
 -- common.
-use Rattle.std.proofs.Common.{◌≡◌, ℕ, zero, suc, pos, List, [], ◌∷◌, length, get_or, ◌+◌, ◌-◌, ◌*◌, ◌<◌, ◌≤◌, inl, inr, refl, sym, ◌∙◌, ap, subst, arith, unsigned_abs, Bool, true, false, if◌then◌else◌}
+use Rattle.std.proofs.Common.{◌≡◌, ℕ, zero, suc, pos, List, [], ◌∷◌, length, get_or, ◌+◌, ◌-◌, ◌*◌, ◌<◌, ◌≤◌, inl, inr, refl, sym, ◌∙◌, ap, subst}
+use Rattle.std.proofs.Common.{arith, unsigned_abs, Bool, true, false, if◌then◌else◌}
 use Rattle.std.proofs.Math.Nat.{mul_comm}
 use Rattle.std.proofs.lemmas.Nat.{mul-le}
 use Rattle.std.proofs.lemmas.List.{get_or-append_right}
@@ -126,7 +127,8 @@ module _ (a : Street) (v : IsValid a) where
   cell_ratio =
       let k = a.head.ratio in
       let l = mul-le (unsigned_abs k.num) parts 100000 3600 v.ratio.num v.most_parts in
-      subst (λ c. IsParts c 360000000 k) (mul_comm k.den parts) (parts_more (k.den * parts) (unsigned_abs k.num * parts) 360000000 k (omega (arith, l)) (parts_finer k.den parts (unsigned_abs k.num) k (own_parts k)))
+      subst (λ c. IsParts c 360000000 k) (mul_comm k.den parts) (parts_more (k.den * parts) (unsigned_abs k.num * parts) 360000000 k (omega (arith, l))
+      (parts_finer k.den parts (unsigned_abs k.num) k (own_parts k)))
 
   abbrev IsGoalCell : ℚ → Type 0
   IsGoalCell x = IsParts common 720000000 x
@@ -151,12 +153,14 @@ module _ (a : Street) (v : IsValid a) where
     columns = some_halves _ (λ d i h. p (half_place (count a) d i));
   }
 
-  row_touched : (cs : List Cell) (b : ℚ) → ((j : ℕ) → IsCell (get_or (cells_of (placed_row (link_width (count a)) cs b)) j (number 0))) → IsEither sizes 0 (link_pivots a) (cells_of (placed_row (link_width (count a)) cs b))
+  row_touched : (cs : List Cell) (b : ℚ) → ((j : ℕ) → IsCell (get_or (cells_of (placed_row (link_width (count a)) cs b)) j (number 0)))
+      → IsEither sizes 0 (link_pivots a) (cells_of (placed_row (link_width (count a)) cs b))
   row_touched cs b p = inr (touched _ (λ j. parts_more common 360000000 720000000 _ (omega arith) (p j)))
 
   end_cells_are : (c d : ℕ) (x y b : ℚ) → IsCell x → IsCell y → IsCell b → IsEither sizes 0 (link_pivots a) (cells_of (placed_row (link_width (count a)) ((c, x) ∷ (d, y) ∷ []) b))
   end_cells_are c d x y b p q r =
-      row_touched ((c, x) ∷ (d, y) ∷ []) b (λ j. each_cell IsCell (placed_row (link_width (count a)) ((c, x) ∷ (d, y) ∷ []) b) j cell_zero (row_each IsCell (link_width (count a)) ((c, x) ∷ (d, y) ∷ []) b j cell_zero (p, (q, tt))) r)
+      row_touched ((c, x) ∷ (d, y) ∷ []) b (λ j. each_cell IsCell (placed_row (link_width (count a)) ((c, x) ∷ (d, y) ∷ []) b) j cell_zero
+      (row_each IsCell (link_width (count a)) ((c, x) ∷ (d, y) ∷ []) b j cell_zero (p, (q, tt))) r)
 
   end_there : (e : End) (i : ℕ) → HasLink a i → HasSignal a (signal_at e i)
   end_there Here i h = let l = h.0 in let m = h.1 in (omega arith, omega arith)

@@ -1,5 +1,6 @@
 -- The leaf of a line's end, and the start leaf, are leaves that a link certificate keeps: their rows have names and ascend, and are few.
-use Rattle.std.proofs.Common.{arith, ◌≡◌, ℕ, zero, suc, ◌+◌, ◌-◌, ◌≤◌, ◌⊎◌, inl, inr, Bool, true, false, true≢false, Option, None, Some, List, [], ◌∷◌, ◌++◌, length, map, All, refl, sym, ◌∙◌, ap, subst, length-append, if◌then◌else◌}
+use Rattle.std.proofs.Common.{arith, ◌≡◌, ℕ, zero, suc, ◌+◌, ◌-◌, ◌≤◌, ◌⊎◌, inl, inr, Bool, true, false, true≢false, Option, None, Some, List, []}
+use Rattle.std.proofs.Common.{◌∷◌, ◌++◌, length, map, All, refl, sym, ◌∙◌, ap, subst, length-append, if◌then◌else◌}
 use Rattle.std.proofs.lemmas.Bool.{eqb-true}
 use Rattle.std.proofs.lemmas.List.Elements.{All-nil, All-cons}
 use Rattle.std.specs.Prelude.{◌==◌, ◌||◌}
@@ -115,7 +116,8 @@ inbound_ascends : (by : ℚ) (i k : ℕ) (last : Option RowId) → is_after last
 inbound_ascends by i zero last e = tt
 inbound_ascends by i (suc k) last e = (e, inbound_ascends by (i + 1) k (Some (in_row i)) (in_next i))
 
-outbound_ascends : (by : ℚ) (i k : ℕ) (last : Option RowId) (ws : List Weight) → is_after last (out_row i) ≡ true → Ascend last ws → ((j : ℕ) → Ascend (Some (out_row j)) ws) → Ascend last (far_weights Outbound by i k ++ ws)
+outbound_ascends : (by : ℚ) (i k : ℕ) (last : Option RowId) (ws : List Weight) → is_after last (out_row i) ≡ true → Ascend last ws
+    → ((j : ℕ) → Ascend (Some (out_row j)) ws) → Ascend last (far_weights Outbound by i k ++ ws)
 outbound_ascends by i zero last ws e now behind = now
 outbound_ascends by i (suc k) last ws e now behind = (e, outbound_ascends by (i + 1) k (Some (out_row i)) ws (out_next i) (behind i) behind)
 

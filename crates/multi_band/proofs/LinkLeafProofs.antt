@@ -37,7 +37,8 @@ links_add a box two sum w e =
     let p = no_fault_by (link_rows a box) link_name_at (HasLinkRow a) (link_row a box) (links_stand a box two) sum w e in
     ((link_row_decided a (link_name_at w.row)).1 p.there, p.positive, p.fits)
 
-links_leaf : (a : Street) (limit : Option ℚ) (box : Area) (ws : List Weight) → 2 ≤ count a → fault_of (link_rows a box) ws ≡ None → Keeps (link_goal_sheet a) limit (total_of (link_rows a box) ws) → IsLinkLeaf a limit box ws
+links_leaf : (a : Street) (limit : Option ℚ) (box : Area) (ws : List Weight) → 2 ≤ count a → fault_of (link_rows a box) ws ≡ None
+    → Keeps (link_goal_sheet a) limit (total_of (link_rows a box) ws) → IsLinkLeaf a limit box ws
 links_leaf a limit box ws two f k = leaf_proof (link_rows a box) (links_add a box two) (link_aim a limit) ws f k
 
 module _ (a : Street) (line : BoxLine) (v : IsValid a) (f : fault_of (link_rows a line.area) (end_leaf (link_program a) line) ≡ None) where
@@ -69,5 +70,6 @@ start_links_prove a v =
     (inl (link_covers_total a (root_box a) v.few (link_start_leaf a) (link_start_bound a) (start_links_cover a v)))
 
 -- the vertex of an optimal end is one of links of the box
-pub link_vertex_there : (a : Street) (line : BoxLine) → IsValid a → (box : Area) (xs : List ℚ) → line.area ≡ box → end_move (link_program a) line ≡ optimal → xs ≡ end_point (link_program a) line → IsLinkVertex a box xs
+pub link_vertex_there : (a : Street) (line : BoxLine) → IsValid a → (box : Area) (xs : List ℚ) → line.area ≡ box → end_move (link_program a) line ≡ optimal
+    → xs ≡ end_point (link_program a) line → IsLinkVertex a box xs
 link_vertex_there a line v box xs e o x = subst (λ b. IsLinkVertex a b xs) e (subst (IsLinkVertex a line.area) (sym x) (link_end_vertex a line v o))

@@ -41,7 +41,8 @@ module _ (a : Street) (line : BoxLine) (v : IsValid a) where
 
   module _ (e : end_move (link_program a) line ≡ optimal) where
     covers_with : CoversWith (link_goal a) (link_width (count a)) (end_bound (link_program a) line) end_sum
-    covers_with = subst (λ s. CoversWith (link_goal a) (link_width (count a)) (end_bound (link_program a) line) s) (link_sum_read a line.area (end_leaf (link_program a) line)) (runs.leaf_covers (link_program a) line v e)
+    covers_with = subst (λ s. CoversWith (link_goal a) (link_width (count a)) (end_bound (link_program a) line) s) (link_sum_read a line.area (end_leaf (link_program a) line))
+        (runs.leaf_covers (link_program a) line v e)
 
     pub link_end_covers : CoversLinks a (end_bound (link_program a) line) end_sum
     link_end_covers = let c = covers_with in record { coefs = λ j l. c.coefs j l; bound = rw c.bound (≤ℚ_refl _) }
@@ -51,8 +52,10 @@ module _ (a : Street) (line : BoxLine) (v : IsValid a) where
 
 module _ (a : Street) (line : BoxLine) (v : IsValid a) (b : IsBoxOf a line.area) where
   -- a link timing that the vertex gives is good, and its value is the bound
-  pub link_reads_good : (t : LinkRecord) → ending_of (link_program a) line ≡ Reads → (link_program a).outcome line.area (end_point (link_program a) line) ≡ Gives t → GoodLinks a t × (link_value a t ≡ end_bound (link_program a) line)
+  pub link_reads_good : (t : LinkRecord) → ending_of (link_program a) line ≡ Reads → (link_program a).outcome line.area (end_point (link_program a) line) ≡ Gives t
+      → GoodLinks a t × (link_value a t ≡ end_bound (link_program a) line)
   link_reads_good t e f =
       let o = optimal_from (link_program a) line (subst IsOptimal (sym e) tt) in
-      let g = gives_good a line.area (end_point (link_program a) line) (street_of a v) b (link_end_vertex a line v o) t (only_gives (link_recovered a line.area (end_point (link_program a) line)) t f) in
+      let g = gives_good a line.area (end_point (link_program a) line) (street_of a v) b (link_end_vertex a line v o) t
+      (only_gives (link_recovered a line.area (end_point (link_program a) line)) t f) in
       (g.0, g.1 ∙ link_end_goal a line v o)

@@ -103,7 +103,8 @@ module _ (a : Street) (box : Area) (x : List ℚ) (h : IsStreet a) (v : IsLinkVe
 
   pub link_ready : IsValid a → IsWhole a x → ProductsFit a x → unit_of a x < 2 ^ 80 → IsLinkReady a x
   link_ready i w p u =
-      let r = from_plain_ready a x (ready_from (plain a) box x (plain_street a h) i.most_parts (least_second a i) (lines_vertex a box x h v) (plain_whole a x w) p (subst (λ n. n < 2 ^ 80) (sym (same_unit a x)) u)) in
+      let r = from_plain_ready a x (ready_from (plain a) box x (plain_street a h) i.most_parts (least_second a i) (lines_vertex a box x h v)
+      (plain_whole a x w) p (subst (λ n. n < 2 ^ 80) (sym (same_unit a x)) u)) in
       record {
         lines = r;
         columns = v.columns;

@@ -22,7 +22,8 @@ use Rattle.offset_recovery.proofs.Whole.{whole_of, by_gives, only_gives}
 use Rattle.multi_band.specs.LinkRecovered.{link_column_tests, link_number_tests, linked, link_recovered, IsLinkSound}
 use Rattle.multi_band.specs.laws.LinkRecoveries.{splits_inside}
 
-pub link_outcome : (a : Street) (box : Area) (x : List ℚ) (r : Result (Recovered LinkRecord) RecoverFault) → IsRead a box x (link_column_tests a x) (link_timing_of a x) r → IsOutcome (link_recovered a box x) r
+pub link_outcome : (a : Street) (box : Area) (x : List ℚ) (r : Result (Recovered LinkRecord) RecoverFault) → IsRead a box x (link_column_tests a x) (link_timing_of a x) r
+    → IsOutcome (link_recovered a box x) r
 unfolding link_recovered
 link_outcome a box x r h = read_outcome (linked a x) a box x (link_column_tests a x) r h
 

@@ -1,5 +1,6 @@
 -- The sum of the start leaf of links stays within 128 bits: each of its rows adds so many parts of a denominator in common.
-use Rattle.std.proofs.Common.{◌≡◌, ℕ, zero, suc, pos, Bool, true, false, Option, None, List, [], ◌∷◌, ◌++◌, length, get_or, ◌+◌, ◌-◌, ◌*◌, ◌≤◌, refl, sym, ◌∙◌, ap, subst, arith, length-append, unsigned_abs, if◌then◌else◌}
+use Rattle.std.proofs.Common.{◌≡◌, ℕ, zero, suc, pos, Bool, true, false, Option, None, List, [], ◌∷◌, ◌++◌, length, get_or, ◌+◌, ◌-◌, ◌*◌, ◌≤◌, refl}
+use Rattle.std.proofs.Common.{sym, ◌∙◌, ap, subst, arith, length-append, unsigned_abs, if◌then◌else◌}
 use Rattle.std.proofs.Math.Nat.{mul_comm}
 use Rattle.std.specs.Ordering.{eq_by_cmp}
 use Rattle.rational_theory.specs.Rational.{ℚ, whole, ◌+ℚ◌, ◌*ℚ◌, ◌≤ℚ◌}
@@ -146,7 +147,8 @@ module _ (a : Street) (v : IsValid a) where
     two_small : IsMultiplier (number 2)
     two_small =
         let l = v.ratio.den in
-        twice_multiplier (number 1) (number 2) (ring (lit (pos 1) ⊕ lit (pos 1)) (lit (pos 2)) [] refl) (parts_more a.head.ratio.den a.head.ratio.den 100000 (number 1) (omega arith) (one_parts a.head.ratio.den))
+        twice_multiplier (number 1) (number 2) (ring (lit (pos 1) ⊕ lit (pos 1)) (lit (pos 2)) [] refl)
+        (parts_more a.head.ratio.den a.head.ratio.den 100000 (number 1) (omega arith) (one_parts a.head.ratio.den))
 
     ratio_small : IsMultiplier (twice_ratio a)
     ratio_small =
@@ -161,7 +163,8 @@ module _ (a : Street) (v : IsValid a) where
     inbound_small : AllSmall (inbound_weights a) × (length (inbound_weights a) ≤ count a - 1)
     inbound_small = pick (eq_by_cmp cmp_ℚ a.head.ratio (number 0))
       where
-        pick : (b : Bool) → AllSmall (if b then [] else far_weights Inbound (twice_ratio a) 1 (count a - 1)) × (length (if b then [] else far_weights Inbound (twice_ratio a) 1 (count a - 1)) ≤ count a - 1)
+        pick : (b : Bool) → AllSmall (if b then [] else far_weights Inbound (twice_ratio a) 1 (count a - 1))
+            × (length (if b then [] else far_weights Inbound (twice_ratio a) 1 (count a - 1)) ≤ count a - 1)
         pick true = (tt, omega arith)
         pick false =
             let n = v.few in (
@@ -183,4 +186,5 @@ module _ (a : Street) (v : IsValid a) where
         let e = count_fars Outbound (number 2) 1 (count a - 1) in
         let k = i.1 in
         let l = length-append o (inbound_weights a) in
-        weights_fit (link_start_leaf a) 0 (blank (link_width (count a))) (small_append o (inbound_weights a) (fars_small Outbound (number 2) 1 (count a - 1) two_low two_small (omega arith) (omega arith)) i.0) (omega arith) blank_sum
+        weights_fit (link_start_leaf a) 0 (blank (link_width (count a)))
+        (small_append o (inbound_weights a) (fars_small Outbound (number 2) 1 (count a - 1) two_low two_small (omega arith) (omega arith)) i.0) (omega arith) blank_sum

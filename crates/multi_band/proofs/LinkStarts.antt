@@ -1,5 +1,6 @@
 -- The start leaf of links covers the goal with its bound.
-use Rattle.std.proofs.Common.{◌≡◌, ℕ, zero, suc, pos, Bool, true, false, List, [], ◌∷◌, ◌++◌, map, get_or, replicate, ◌+◌, ◌-◌, ◌*◌, ◌<◌, ◌≤◌, ◌⊎◌, inl, inr, refl, sym, ◌∙◌, ap, subst, arith, if◌then◌else◌}
+use Rattle.std.proofs.Common.{◌≡◌, ℕ, zero, suc, pos, Bool, true, false, List, [], ◌∷◌, ◌++◌, map, get_or, replicate, ◌+◌, ◌-◌, ◌*◌, ◌<◌, ◌≤◌, ◌⊎◌}
+use Rattle.std.proofs.Common.{inl, inr, refl, sym, ◌∙◌, ap, subst, arith, if◌then◌else◌}
 use Rattle.std.proofs.lemmas.List.{length-replicate, get_or_append_left, get_or-append_right}
 use Rattle.std.specs.Ordering.{eq_by_cmp}
 use Rattle.rational_theory.specs.Rational.{ℚ, ◌+ℚ◌, ◌*ℚ◌, ◌≤ℚ◌}
@@ -63,7 +64,8 @@ module _ (a : Street) (box : Area) where
   sum_front j [] ws g h = sum_low j ws h
   sum_front j (v ∷ vs) ws g h =
       let e = sum_front j vs ws g.2 h in
-      rw (first_more v vs j, first_more v (vs ++ ws) j) (linear (record { count = 1; low = at 1; high = at 2 } ∷ []) 0 (at 0 ⊕ at 1) (at 0 ⊕ at 2) (v.by *ℚ number_in v j ∷ weighted vs j ∷ weighted (vs ++ ws) j ∷ []) (e, tt) refl)
+      rw (first_more v vs j, first_more v (vs ++ ws) j) (linear (record { count = 1; low = at 1; high = at 2 } ∷ []) 0 (at 0 ⊕ at 1) (at 0 ⊕ at 2)
+      (v.by *ℚ number_in v j ∷ weighted vs j ∷ weighted (vs ++ ws) j ∷ []) (e, tt) refl)
 
   sum_back : (j : ℕ) (vs ws : List Weight) → AllLow j vs → AllLow j ws → weighted ws j ≤ℚ weighted (vs ++ ws) j
   sum_back j [] ws g h = ≤ℚ_refl (weighted ws j)
@@ -91,7 +93,8 @@ module _ (a : Street) (box : Area) where
     -- at a link's half they come to the multiplier at least
     fars_most : (d : Dir) (by : ℚ) (i k t : ℕ) → number 0 ≤ℚ by → 1 ≤ i → i + k ≤ count a → i ≤ t → t < i + k → by ≤ℚ weighted (far_weights d by i k) (half_place (count a) d t)
     fars_most d by i zero t h l m p q = absurd (omega arith)
-    fars_most d by i (suc k) t h l m p q = rw (first_more (far_weight d by i) (far_weights d by (i + 1) k) (half_place (count a) d t)) (pick (cases i t p) (λ r. fars_most d by (i + 1) k t h (omega arith) (omega arith) r (omega arith)))
+    fars_most d by i (suc k) t h l m p q = rw (first_more (far_weight d by i) (far_weights d by (i + 1) k) (half_place (count a) d t))
+        (pick (cases i t p) (λ r. fars_most d by (i + 1) k t h (omega arith) (omega arith) r (omega arith)))
       where
         cases : (i t : ℕ) → i ≤ t → (i ≡ t) ⊎ (i + 1 ≤ t)
         cases i t p = grind arith
@@ -100,7 +103,8 @@ module _ (a : Street) (box : Area) where
             → by ≤ℚ (by *ℚ number_in (far_weight d by i) (half_place (count a) d t) +ℚ weighted (far_weights d by (i + 1) k) (half_place (count a) d t))
         pick (inl e) r =
             let g : HasLink a i = (l, omega arith) in
-            let one : number_in (far_weight d by i) (half_place (count a) d t) ≡ number 1 = far_number d by i (half_place (count a) d t) ∙ ap (λ n. coef (link_line a (far_form a d Here i)).coefs (half_place (count a) d n)) (sym e) ∙ far_at a d i g in
+            let one : number_in (far_weight d by i) (half_place (count a) d t) ≡ number 1 = far_number d by i (half_place (count a) d t)
+            ∙ ap (λ n. coef (link_line a (far_form a d Here i)).coefs (half_place (count a) d n)) (sym e) ∙ far_at a d i g in
             let times : by *ℚ number 1 ≡ by = ring (at 0 ⊗ lit (pos 1)) (at 0) (by ∷ []) refl in
             rw (one, times) (more_left by _ (sum_low (half_place (count a) d t) (far_weights d by (i + 1) k) (fars_low d by (i + 1) k (half_place (count a) d t) h)))
         pick (inr e) r = ≤ℚ_trans _ _ _ (r e) (more_right _ _ (product_not_negative _ _ h (far_low d by i (half_place (count a) d t))))
@@ -136,7 +140,8 @@ module _ (a : Street) (box : Area) where
         ≤ℚ_trans _ _ _ (pick (eq_by_cmp cmp_ℚ a.head.ratio (number 0)) refl)
         (sum_back j (far_weights Outbound (number 2) 1 (count a - 1)) (inbound_weights a) (outbound_low j) (inbound_low j))
       where
-        pick : (b : Bool) → eq_by_cmp cmp_ℚ a.head.ratio (number 0) ≡ b → twice_ratio a ≤ℚ weighted (if b then [] else far_weights Inbound (twice_ratio a) 1 (count a - 1)) (half_place (count a) Inbound t)
+        pick : (b : Bool) → eq_by_cmp cmp_ℚ a.head.ratio (number 0) ≡ b → twice_ratio a ≤ℚ weighted (if b then [] else far_weights Inbound (twice_ratio a) 1 (count a - 1))
+            (half_place (count a) Inbound t)
         pick true e =
             let z : twice_ratio a ≡ number 0 = ap (λ k. number 2 *ℚ k) (eq_true a.head.ratio (number 0) (sym e)) ∙ ring (lit (pos 2) ⊗ lit (pos 0)) (lit (pos 0)) [] refl in
             rw z (≤ℚ_refl (number 0))
@@ -213,7 +218,8 @@ module _ (a : Street) (v : IsValid a) where
   pub start_links_there : AreLinkWeights a (map link_named (link_start_leaf a))
   start_links_there =
       let n = v.few in
-      link_weights_append a (far_weights Outbound (number 2) 1 (count a - 1)) (inbound_weights a) (far_there a Outbound (number 2) 1 (count a - 1) two_low (omega arith) (omega arith)) (pick (eq_by_cmp cmp_ℚ a.head.ratio (number 0)))
+      link_weights_append a (far_weights Outbound (number 2) 1 (count a - 1)) (inbound_weights a) (far_there a Outbound (number 2) 1 (count a - 1) two_low (omega arith) (omega arith))
+      (pick (eq_by_cmp cmp_ℚ a.head.ratio (number 0)))
     where
       pick : (b : Bool) → AreLinkWeights a (map link_named (if b then [] else far_weights Inbound (twice_ratio a) 1 (count a - 1)))
       pick true = tt

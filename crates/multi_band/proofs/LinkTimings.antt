@@ -39,7 +39,8 @@ module _ (a : Street) (x : List ℚ) where
         record { count = omega arith; each = each_link a x (half_place (count a) d) (fit d) }
 
     is_link_timing : 2 ≤ count a → count a ≤ most_signals → IsReady a x → placed_tests a x ≡ None
-        → IsLinkTiming (ticks_of a x Frequency) (unit_of a x) (patterns_at a x) (reds_at a x) (runs_at a x Outbound) (runs_at a x Inbound) (first_out_at a x) (first_in_at a x) (halves_at a x Outbound) (halves_at a x Inbound)
+        → IsLinkTiming (ticks_of a x Frequency) (unit_of a x) (patterns_at a x) (reds_at a x) (runs_at a x Outbound) (runs_at a x Inbound) (first_out_at a x)
+        (first_in_at a x) (halves_at a x Outbound) (halves_at a x Inbound)
     is_link_timing few many r p = record {
       lines = is_timing a x 0 0 few many r both.0 p (omega arith) (omega arith);
       outbound = are_halves few Outbound;

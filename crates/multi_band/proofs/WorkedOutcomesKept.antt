@@ -30,7 +30,8 @@ split_is : link_recovered two_signals (root_box two_signals) late ≡ Splits (Lo
 unfolding link_recovered whole over inverse_ℚ neg_ℚ ◌+ℚ◌ ◌*ℚ◌ gcd floor_ℚ ceil_ℚ cmp_ℚ fits steps_fit is_past past_wide common unit_of ticks_in pattern_at
 split_is = refl
 
-product_is : link_recovered two_signals (root_box two_signals) (with_halves_of (number 1 /ℚ number 4) (number (2 ^ 126))) ≡ Refused (wide.Product 12 (record { op = Mul; left = number (2 ^ 126); right = number 100 }))
+product_is : link_recovered two_signals (root_box two_signals) (with_halves_of (number 1 /ℚ number 4) (number (2 ^ 126))) ≡ Refused
+    (wide.Product 12 (record { op = Mul; left = number (2 ^ 126); right = number 100 }))
 unfolding link_recovered whole over inverse_ℚ neg_ℚ ◌+ℚ◌ ◌*ℚ◌ gcd floor_ℚ ceil_ℚ cmp_ℚ fits steps_fit is_past past_wide common unit_of ticks_in pattern_at
 product_is = refl
 

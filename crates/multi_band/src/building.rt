@@ -14,7 +14,7 @@ use link_space::{half_column, link_column_count};
 use loop_rows::column_count;
 use named_row::Row;
 use narrow_fraction::{Frac, Memory};
-use program_builder::{StartPivot, load, make_tableau, pivot};
+use program_builder::{StartPivot, load, pivot};
 use search_box::SearchBox;
 use std::alloc::Global;
 
@@ -95,8 +95,10 @@ fn enter_halves(tableau: &mut Tableau, artery: &Artery, area: &SearchBox)
     }
 }
 
-/// Makes the state that `start_links` gives for a box, in a tableau that `start_links` made for this artery, spent or not. The
-/// spare rows have any contents afterwards. Takes no memory.
+/// Makes the tableau that a box of links begins from, in one that `make_tableau` made for this artery's links, spent or not: every
+/// row of links that the artery has, in the order of their names, with the value of links as its goal, after the pivots that bring
+/// the halves into the basis. It is dual feasible for each ratio, and no number leaves 128 bits. The spare rows have any contents
+/// afterwards. Takes no memory.
 pub fn reset_links(tableau: &mut Tableau, artery: &Artery, area: &SearchBox, rows: &mut SpareRows)
     requires boxed { IsBoxOf artery.now area.now }
     requires made { IsMadeForLinks artery.now tableau.old }
@@ -114,17 +116,4 @@ pub fn reset_links(tableau: &mut Tableau, artery: &Artery, area: &SearchBox, row
         &mut rows.row,
     );
     enter_halves(tableau, artery, area);
-}
-
-/// The tableau that a box of links begins from: every row of links that the artery has, in the order of their names, with the
-/// value of links as its goal, after the pivots that bring the halves into the basis. It is dual feasible for each ratio, and no
-/// number leaves 128 bits. The error is want of memory.
-pub fn start_links(alloc: Global, artery: &Artery, area: &SearchBox) -> Result<Tableau, Memory>
-    requires boxed { IsBoxOf artery.now area.now }
-    ensures { IfOk result (λ tableau. IsOpenedForLinks artery.now area.now tableau) }
-{
-    let mut tableau = make_tableau(alloc, &LinkBandsTable { artery })?;
-    let mut rows = make_spare(alloc, artery)?;
-    reset_links(&mut tableau, artery, area, &mut rows);
-    Ok(tableau)
 }

@@ -6,12 +6,12 @@
 //! what its accepted certificate proves of every link timing on any grid.
 //!
 //! - The program: `specs/LinkTables.antt` has its rows, `specs/LinkOpening.antt` the tableau that each box begins from, which
-//!   `start_links` and `reset_links` make, and `specs/LinkStarts.antt` the leaf that bounds the root before any step.
+//!   `reset_links` makes, and `specs/LinkStarts.antt` the leaf that bounds the root before any step.
 //! - What becomes of a vertex is a function of the artery, the box and the point: `link_recovered`, in
 //!   `specs/LinkRecovered.antt`, a list of tests in their order. `recover_links` answers what it says, but for want of memory; a
 //!   timing is good and its value is the vertex's goal, and a place lies inside the box.
-//! - The search: `specs/LinkProgram.antt` and `specs/LinkRules.antt` are the links of an artery as a program over boxes and as a relaxation
-//!   (`branch_tree`, `branch_and_bound`). What is answered stands in `specs/LinkSearches.antt`, `LinkTold.antt`, `LinkSites.antt`,
+//! - The search: `ArteryLinks` is what is sought, `specs/LinkProgram.antt` and `specs/LinkRules.antt` are the links of an artery as a program
+//!   over boxes and as a relaxation (`branch_tree`, `branch_and_bound`). What is answered stands in `specs/LinkSearches.antt`, `LinkTold.antt`, `LinkSites.antt`,
 //!   `LinkEnough.antt` and `LinkCertified.antt`.
 //! - The report: `link_report` writes the lines of what was found, each a function to bytes (`specs/LinkReport.antt`); what they share
 //!   with the report of whole bands is `diagram_print`'s.
@@ -40,7 +40,6 @@ mod searching;
 mod starting;
 mod table;
 
-pub use building::{reset_links, start_links};
 pub use certifying::link_certificate;
 pub use checked::{SearchedLinks, search_links_and_check};
 pub use found::LinkFound;
@@ -48,6 +47,7 @@ pub use laws::{
     law_link_outcomes_are_sound, law_link_outcomes_mean, law_worked_link_outcomes,
     law_worked_link_vertices,
 };
+pub use program::ArteryLinks;
 pub use recovery::{RecoveredLinks, recover_links};
 pub use report::link_report;
 pub use searching::link_search;

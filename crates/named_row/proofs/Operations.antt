@@ -20,7 +20,8 @@ unfolding place_refusal
 product_refused p k x c w h = ap (λ o. earlier o (at p (past_wide Add x (k *ℚ c)))) (at_some p (past_wide Mul k c) w _ (past_some Mul k c h.1) h.0)
 
 -- the product fits, and the sum was refused
-pub sum_refused : (p : Place) (k x c q : ℚ) (w : Wide) → Fits128 Mul k c × (q ≡ k *ℚ c) → (w ≡ record { op = Add; left = x; right = q }) × Past128 Add x q → place_refusal p k x c ≡ Some (record { place = p; wide = w })
+pub sum_refused : (p : Place) (k x c q : ℚ) (w : Wide) → Fits128 Mul k c × (q ≡ k *ℚ c) → (w ≡ record { op = Add; left = x; right = q }) × Past128 Add x q
+    → place_refusal p k x c ≡ Some (record { place = p; wide = w })
 unfolding place_refusal
 sum_refused p k x c q w f h =
     ap₂ earlier (ap (at p) (past_none Mul k c f.0)) (ap (λ t. at p (past_wide Add x t)) (sym f.1) ∙ at_some p (past_wide Add x q) w _ (past_some Add x q h.1) h.0)

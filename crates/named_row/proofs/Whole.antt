@@ -19,7 +19,8 @@ pub cells_stop : (k : ℚ) (s r : Sheet) (w : WideAt) → first_below (cell_refu
 unfolding sum_refusal
 cells_stop k s r w e = ap (λ o. earlier o (place_refusal Bound k r.bound s.bound)) e
 
-pub bound_stops : (k : ℚ) (s r : Sheet) (w : WideAt) → first_below (cell_refusal k r.coefs s.coefs) (length r.coefs) ≡ None → place_refusal Bound k r.bound s.bound ≡ Some w → sum_refusal k s r ≡ Some w
+pub bound_stops : (k : ℚ) (s r : Sheet) (w : WideAt) → first_below (cell_refusal k r.coefs s.coefs) (length r.coefs) ≡ None → place_refusal Bound k r.bound s.bound ≡ Some w
+    → sum_refusal k s r ≡ Some w
 unfolding sum_refusal
 bound_stops k s r w e f = ap₂ (λ o p. earlier o p) e f
 
@@ -33,7 +34,8 @@ unfolding with_times
 with_times_is k s r xs b t e f g = λ i. record { coefs = e i; bound = f i; spent = g i }
 
 -- what a refused sum leaves, in its columns and at its bound
-pub left_is : (p : Place) (k : ℚ) (s r : Sheet) (xs : List ℚ) (b : ℚ) → xs ≡ coefs_left p k r.coefs s.coefs → b ≡ r.bound → ◌≡◌ {A = Sheet} (record { coefs = xs; bound = b; spent = true }) (left_at p k s r)
+pub left_is : (p : Place) (k : ℚ) (s r : Sheet) (xs : List ℚ) (b : ℚ) → xs ≡ coefs_left p k r.coefs s.coefs → b ≡ r.bound
+    → ◌≡◌ {A = Sheet} (record { coefs = xs; bound = b; spent = true }) (left_at p k s r)
 unfolding left_at
 left_is p k s r xs b e f = λ i. record { coefs = e i; bound = f i; spent = true }
 
@@ -50,7 +52,8 @@ pub cell_uncovered : (r g : Sheet) (v : ℚ) (p : Place) → first_below (λ j. 
 unfolding uncovered
 cell_uncovered r g v p e = ap (λ o. earlier o (refusal_if (is_lt (cmp_ℚ v r.bound)) Bound)) e
 
-pub bound_uncovered : (r g : Sheet) (v : ℚ) → first_below (λ j. below (number_at r.coefs j) (number_at g.coefs j) j) (length r.coefs) ≡ None → true ≡ is_lt (cmp_ℚ v r.bound) → uncovered r g v ≡ Some Bound
+pub bound_uncovered : (r g : Sheet) (v : ℚ) → first_below (λ j. below (number_at r.coefs j) (number_at g.coefs j) j) (length r.coefs) ≡ None
+    → true ≡ is_lt (cmp_ℚ v r.bound) → uncovered r g v ≡ Some Bound
 unfolding uncovered
 bound_uncovered r g v e f = ap₂ (λ o b. earlier o (refusal_if b Bound)) e (sym f)
 
@@ -60,7 +63,8 @@ all_covered r g v e f = ap₂ (λ o b. earlier o (refusal_if b Bound)) e (sym f)
 
 pub covers : (r g : Sheet) (v : ℚ) → first_below (λ j. below (number_at r.coefs j) (number_at g.coefs j) j) (length r.coefs) ≡ None → false ≡ is_lt (cmp_ℚ v r.bound) → Covers r g v
 covers r g v e f = record {
-  coefs = λ j h. lt_false _ _ (sym (not_refused (is_lt (cmp_ℚ (number_at r.coefs j) (number_at g.coefs j))) (Cell j) (none_each (λ j. below (number_at r.coefs j) (number_at g.coefs j) j) (length r.coefs) e j h)));
+  coefs = λ j h. lt_false _ _ (sym (not_refused (is_lt (cmp_ℚ (number_at r.coefs j) (number_at g.coefs j))) (Cell j)
+      (none_each (λ j. below (number_at r.coefs j) (number_at g.coefs j) j) (length r.coefs) e j h)));
   bound = lt_false v r.bound f;
 }
 
@@ -79,6 +83,7 @@ all_refuted r e f = ap₂ (λ o b. earlier o (refusal_if b Bound)) e (sym f)
 
 pub refutes : (r : Sheet) → first_below (λ j. below (number_at r.coefs j) (whole (pos 0)) j) (length r.coefs) ≡ None → false ≡ is_le (cmp_ℚ (whole (pos 0)) r.bound) → Refutes r
 refutes r e f = record {
-  coefs = λ j h. lt_false _ _ (sym (not_refused (is_lt (cmp_ℚ (number_at r.coefs j) (whole (pos 0)))) (Cell j) (none_each (λ j. below (number_at r.coefs j) (whole (pos 0)) j) (length r.coefs) e j h)));
+  coefs = λ j h. lt_false _ _ (sym (not_refused (is_lt (cmp_ℚ (number_at r.coefs j) (whole (pos 0)))) (Cell j)
+      (none_each (λ j. below (number_at r.coefs j) (whole (pos 0)) j) (length r.coefs) e j h)));
   bound = le_false (whole (pos 0)) r.bound f;
 }

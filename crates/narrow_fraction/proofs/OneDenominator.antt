@@ -33,7 +33,8 @@ sum-over x y =
     let d = y.den / gcd x.den y.den in
     let t = times_part x.den y.den y.positive in
     same_ratio _ _ _ _ _ _ _ _
-    (over_terms (x.num *ℤ pos d +ℤ y.num *ℤ pos b) (up x.num * d + up y.num * b) (down x.num * d + down y.num * b) (x.den * d) (mul-pos x.positive (part_pos x.den y.den y.positive)) (omega (arith, ints)))
+    (over_terms (x.num *ℤ pos d +ℤ y.num *ℤ pos b) (up x.num * d + up y.num * b) (down x.num * d + down y.num * b) (x.den * d)
+    (mul-pos x.positive (part_pos x.den y.den y.positive)) (omega (arith, ints)))
     (sum_ratio x y _ _ _ _ _ _ (own_ratio x) (own_ratio y))
     (sum_cross (up x.num) (down x.num) (up y.num) (down y.num) x.den y.den (gcd x.den y.den) b d t.0 t.1)
 
@@ -174,7 +175,8 @@ top_gcd x y =
     let dy : d ∣ y.den = subst (λ n. d ∣ n) t.1 (dvd-mul_left d g) in
     let r : gcd b d ≡ 1 = parts_reduced x.den y.den y.positive in
     let left : gcd (unsigned_abs top) b ≡ 1 = top_coprime x y.num b d (first_part_pos x.den y.den x.positive y.positive) bx r in
-    let right : gcd (unsigned_abs top) d ≡ 1 = ap (λ z. gcd (unsigned_abs z) d) (+ℤ_comm (x.num *ℤ pos d) (y.num *ℤ pos b)) ∙ top_coprime y x.num d b (part_pos x.den y.den y.positive) dy (gcd_comm d b ∙ r) in
+    let right : gcd (unsigned_abs top) d ≡ 1 = ap (λ z. gcd (unsigned_abs z) d) (+ℤ_comm (x.num *ℤ pos d) (y.num *ℤ pos b))
+    ∙ top_coprime y x.num d b (part_pos x.den y.den y.positive) dy (gcd_comm d b ∙ r) in
     let both : IsGcd (unsigned_abs top) (b * d) 1 = coprime_turn _ _ (coprime_times b d (unsigned_abs top) (coprime_turn _ _ (IsGcd-one _ _ left)) (coprime_turn _ _ (IsGcd-one _ _ right))) in
     let turned : g * b * d ≡ b * d * g = omega arith in
     let parts : x.den * d ≡ b * d * g = ap (λ n. n * d) (sym t.0) ∙ turned in
@@ -183,5 +185,6 @@ top_gcd x y =
     sym (gcd-is (unsigned_abs top) (x.den * d) k (
       (gcd-IsGcd (unsigned_abs top) g).0,
       dvd_trans k (gcd-IsGcd (unsigned_abs top) g).1 gx,
-      λ e p q. (gcd-IsGcd (unsigned_abs top) g).2 e p (Coprime-cancel e (b * d) g (coprime_turn _ _ (coprime_part (b * d) (unsigned_abs top) e (coprime_turn _ _ both) p)) (subst (λ n. e ∣ n) parts q)),
+      λ e p q. (gcd-IsGcd (unsigned_abs top) g).2 e p (Coprime-cancel e (b * d) g (coprime_turn _ _ (coprime_part (b * d) (unsigned_abs top) e (coprime_turn _ _ both) p))
+          (subst (λ n. e ∣ n) parts q)),
     ))

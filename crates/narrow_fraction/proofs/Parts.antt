@@ -1,5 +1,6 @@
 -- The parts of a fraction: a sign, and two numbers with no common divisor.
-use Rattle.std.proofs.Common.{◌≡◌, ℕ, zero, suc, ℤ, pos, negsuc, Bool, true, false, neg_ℤ, not, ◌*ℤ◌, ◌*◌, ◌/◌, ◌<◌, ◌^◌, refl, sym, ◌∙◌, ap, ap₂, subst, arith, unsigned_abs, mul-pos, mul-zero, zero-mul, ◌⊎◌, inl, inr}
+use Rattle.std.proofs.Common.{◌≡◌, ℕ, zero, suc, ℤ, pos, negsuc, Bool, true, false, neg_ℤ, not, ◌*ℤ◌, ◌*◌, ◌/◌, ◌<◌, ◌^◌, refl, sym, ◌∙◌, ap, ap₂}
+use Rattle.std.proofs.Common.{subst, arith, unsigned_abs, mul-pos, mul-zero, zero-mul, ◌⊎◌, inl, inr}
 use Rattle.std.specs.Prelude.{int_div, int_lt}
 use Rattle.std.specs.Int.{IsGcd}
 use mathlib.Core.Bool.{beq}

@@ -48,7 +48,8 @@ spread u v q n d e = rw (← e) (omega arith)
 
 -- x over a multiple of its denominator
 pub over_multiple : (x : ℚ) (d : ℕ) → 0 < d → x.den * (d / x.den) ≡ d → over (x.num *ℤ pos (d / x.den)) d ≡ x
-over_multiple x d h e = same_ratio _ _ _ _ _ _ _ _ (over_terms (x.num *ℤ pos (d / x.den)) (up x.num * (d / x.den)) (down x.num * (d / x.den)) d h (omega (arith, ints))) (own_ratio x) (spread (up x.num) (down x.num) (d / x.den) x.den d e)
+over_multiple x d h e = same_ratio _ _ _ _ _ _ _ _ (over_terms (x.num *ℤ pos (d / x.den)) (up x.num * (d / x.den)) (down x.num * (d / x.den)) d h (omega (arith, ints)))
+    (own_ratio x) (spread (up x.num) (down x.num) (d / x.den) x.den d e)
 
 -- both numbers times the same one
 pub over_scaled : (n : ℤ) (k d b : ℕ) → 0 < d → 0 < b → d * k ≡ b → over (n *ℤ pos k) b ≡ over n d

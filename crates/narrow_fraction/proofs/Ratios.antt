@@ -1,5 +1,6 @@
 -- The order of two ratios of numbers over two denominators, and their sizes.
-use Rattle.std.proofs.Common.{◌≡◌, ℕ, ℤ, suc, pos, negsuc, unsigned_abs, Ordering, Less, Equal, Greater, ◌*ℤ◌, ◌<ℤ◌, ◌+◌, ◌*◌, ◌<◌, ◌≤◌, ◌^◌, refl, sym, ◌∙◌, ap, ap₂, subst, arith, mul-pos, mul-le-mul_right, zero-lt-suc}
+use Rattle.std.proofs.Common.{◌≡◌, ℕ, ℤ, suc, pos, negsuc, unsigned_abs, Ordering, Less, Equal, Greater, ◌*ℤ◌, ◌<ℤ◌, ◌+◌, ◌*◌, ◌<◌, ◌≤◌, ◌^◌, refl}
+use Rattle.std.proofs.Common.{sym, ◌∙◌, ap, ap₂, subst, arith, mul-pos, mul-le-mul_right, zero-lt-suc}
 use Rattle.std.specs.Ordering.{MatchOrdering, int_cmp}
 use Rattle.std.proofs.lemmas.Cmp.{int_ranked}
 use Rattle.std.proofs.lemmas.Int.{ints, unsigned_abs-mul}
@@ -20,7 +21,8 @@ quotient_ratio a r e d h k =
     let n : z ≡ whole (pos 0) → ⊥ = λ q. absurd (let f = ≤ℚ_out _ _ _ _ _ _ _ _ u (whole_ratio (pos 0)) (subst (λ t. z ≤ℚ t) q (≤ℚ_in _ _ _ _ _ _ _ _ u u (omega arith))) in omega (arith, f)) in
     *ℚ_cancel _ _ z n
     (*ℚ_assoc (over a e) (inverse_ℚ z) z ∙ ap (λ t. over a e *ℚ t) (*ℚ_comm (inverse_ℚ z) z ∙ *ℚ-inverse z n) ∙ *ℚ-one (over a e)
-    ∙ same_ratio _ _ _ _ _ _ _ _ (over_ratio a e h) (product_ratio _ _ _ _ _ _ _ _ (over_terms (a *ℤ pos d) (up a * d) (down a * d) (suc r * e) (mul-pos (zero-lt-suc r) h) (omega (arith, ints))) u) (omega arith))
+    ∙ same_ratio _ _ _ _ _ _ _ _ (over_ratio a e h)
+    (product_ratio _ _ _ _ _ _ _ _ (over_terms (a *ℤ pos d) (up a * d) (down a * d) (suc r * e) (mul-pos (zero-lt-suc r) h) (omega (arith, ints))) u) (omega arith))
 
 -- a/r below b/s, where a s is below b r, all over e and d
 less_ratio : (a b : ℤ) (r s e d : ℕ) → 0 < e → 0 < d → (b *ℤ negsuc r) <ℤ (a *ℤ negsuc s) → over (a *ℤ pos d) (suc r * e) <ℚ over (b *ℤ pos d) (suc s * e)
@@ -43,7 +45,8 @@ equal_ratio a b r s e d h l =
 
 at_order : (a b : ℤ) (r s e d : ℕ) (o : Ordering) → 0 < e → 0 < d
     → MatchOrdering o ((b *ℤ negsuc r) <ℤ (a *ℤ negsuc s)) (b *ℤ negsuc r ≡ a *ℤ negsuc s) ((a *ℤ negsuc s) <ℤ (b *ℤ negsuc r))
-    → MatchOrdering o (over (a *ℤ pos d) (suc r * e) <ℚ over (b *ℤ pos d) (suc s * e)) (over (a *ℤ pos d) (suc r * e) ≡ over (b *ℤ pos d) (suc s * e)) (over (b *ℤ pos d) (suc s * e) <ℚ over (a *ℤ pos d) (suc r * e))
+    → MatchOrdering o (over (a *ℤ pos d) (suc r * e) <ℚ over (b *ℤ pos d) (suc s * e)) (over (a *ℤ pos d) (suc r * e) ≡ over (b *ℤ pos d) (suc s * e))
+    (over (b *ℤ pos d) (suc s * e) <ℚ over (a *ℤ pos d) (suc r * e))
 at_order a b r s e d Less h k m = less_ratio a b r s e d h k m
 at_order a b r s e d Equal h k m = equal_ratio a b r s e d h m
 at_order a b r s e d Greater h k m = less_ratio b a s r e d h k m

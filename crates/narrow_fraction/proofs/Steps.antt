@@ -1,5 +1,6 @@
 -- Euclid's steps on two fractions.
-use Rattle.std.proofs.Common.{◌≡◌, ℕ, ℤ, pos, ◌*ℤ◌, ◌<ℤ◌, ◌+◌, ◌*◌, ◌/◌, ◌%◌, ◌<◌, ◌≤◌, ◌⊎◌, inl, inr, sym, ◌∙◌, ap, arith, mul-lt-mul_of_pos_right, mul-le-mul_right, mul-pos, mul-zero, mod-lt, div-add-mod', Ordering, Less, Equal, Greater}
+use Rattle.std.proofs.Common.{◌≡◌, ℕ, ℤ, pos, ◌*ℤ◌, ◌<ℤ◌, ◌+◌, ◌*◌, ◌/◌, ◌%◌, ◌<◌, ◌≤◌, ◌⊎◌, inl, inr, sym, ◌∙◌, ap, arith, mul-lt-mul_of_pos_right}
+use Rattle.std.proofs.Common.{mul-le-mul_right, mul-pos, mul-zero, mod-lt, div-add-mod', Ordering, Less, Equal, Greater}
 use Rattle.std.specs.Ordering.{MatchOrdering}
 use Rattle.std.proofs.lemmas.Int.{ints}
 use Rattle.rational_theory.specs.Rational.{ℚ, ◌<ℚ◌, over}

@@ -143,7 +143,8 @@ box_gives_none a box x t e = elim (either (link_tests a x) (signal_tests a box x
 ]
 
 -- a timing comes where no test of the box stops
-gives : (first : Option (Outcome TimingRecord)) (number : Option WideTiming) (t u : TimingRecord) → (first ≡ Some (Gives t) → ⊥) → unwrap_or (earlier first (option_map Refused number)) (Gives u) ≡ Gives t → (first ≡ None) × (u ≡ t)
+gives : (first : Option (Outcome TimingRecord)) (number : Option WideTiming) (t u : TimingRecord) → (first ≡ Some (Gives t) → ⊥)
+    → unwrap_or (earlier first (option_map Refused number)) (Gives u) ≡ Gives t → (first ≡ None) × (u ≡ t)
 gives None None t u n h = let e : u ≡ t = cc in (refl, e)
 gives None (Some w) t u n h = cc
 gives (Some o) number t u n h = let e : o ≡ Gives t = h in absurd (n (ap Some e))
@@ -156,7 +157,8 @@ unfolding recovered
 gives_timing a box x t h = by_gives a box x (number_tests a x) t h
 
 -- and a place where one does
-splits : (first : Option (Outcome TimingRecord)) (number : Option WideTiming) (p : At) (u : TimingRecord) → unwrap_or (earlier first (option_map Refused number)) (Gives u) ≡ Splits p → first ≡ Some (Splits p)
+splits : (first : Option (Outcome TimingRecord)) (number : Option WideTiming) (p : At) (u : TimingRecord) → unwrap_or (earlier first (option_map Refused number)) (Gives u) ≡ Splits p
+    → first ≡ Some (Splits p)
 splits None None p u h = cc
 splits None (Some w) p u h = cc
 splits (Some o) number p u h = ap Some h

@@ -1,4 +1,5 @@
-use Rattle.std.proofs.Common.{◌≡◌, ℕ, ◌+◌, ◌≤◌, List, ◌++◌, length, take, drop, arith, sym, ap, ◌∙◌, Option, Some, None, append_assoc, length-append, length-take, length-take-le, take-take, length-drop}
+use Rattle.std.proofs.Common.{◌≡◌, ℕ, ◌+◌, ◌≤◌, List, ◌++◌, length, take, drop, arith, sym, ap, ◌∙◌, Option, Some, None, append_assoc, length-append}
+use Rattle.std.proofs.Common.{length-take, length-take-le, take-take, length-drop}
 use Rattle.std.specs.Prelude.{IfSome}
 use Rattle.std.proofs.Math.Seq.{take-add}
 use Rattle.outer_edge.specs.Taken.{Appends}
@@ -17,7 +18,8 @@ front_more file before after k f m =
     }
 
 -- the same where the file is told
-pub front_after : (told : Option (List ℕ)) (before after : List ℕ) (k : ℕ) → IfSome told (λ file. IsFront file before) → IfSome told (λ file. TakesMore file before after k) → IfSome told (λ file. IsFront file after)
+pub front_after : (told : Option (List ℕ)) (before after : List ℕ) (k : ℕ) → IfSome told (λ file. IsFront file before) → IfSome told (λ file. TakesMore file before after k)
+    → IfSome told (λ file. IsFront file after)
 front_after None before after k f m = tt
 front_after (Some file) before after k f m = front_more file before after k f m
 

@@ -1,5 +1,6 @@
--- Which files may be replaced by new ones, and which errors say what.
-use Rattle.std.specs.Prelude.{◌==◌, ◌&&◌, ◌||◌, nat_le, ℕ, Bool, true, false, List, codes}
+-- Which files may be replaced by new ones, how the new ones are named and made, and which errors say what.
+use Rattle.std.specs.Prelude.{◌==◌, ◌&&◌, ◌||◌, nat_le, ℕ, Bool, true, false, List, ◌++◌, Option, Some, None, codes, bit_and}
+use Rattle.std.specs.Fmt.{decimal}
 use Rattle.std.specs.List.{starts_with}
 use Rattle.std.specs.declared.io.ErrorKind.{ErrorKind}
 use Rattle.std.specs.declared.io.ErrorKind.TheVariants.{AlreadyExists, NotFound, StorageFull, QuotaExceeded}
@@ -16,6 +17,19 @@ is_of_one_owner f g = (f.owner == g.owner) && (f.group == g.group)
 -- also the same permissions
 abbrev pub is_alike : Facts → Facts → Bool
 is_alike f g = is_of_one_owner f g && (g.mode == f.mode)
+
+-- the name of the new file of this number: the file's own, with `.new` and the number at its end
+abbrev pub new_name : List ℕ → ℕ → List ℕ
+new_name name number = name ++ (codes ".new" ++ decimal number)
+
+-- the greatest number of a new file
+abbrev pub greatest_number : ℕ
+greatest_number = 100
+
+-- the permissions of a new file: those of the old one; where there was none, reading and writing, less what the user's mask takes away
+abbrev pub new_mode : Option Facts → ℕ
+new_mode (Some f) = bit_and f.mode 0o777
+new_mode None = 0o666
 
 -- the error says that there is no such file
 abbrev pub is_absence : ErrorKind → Bool

@@ -21,15 +21,18 @@
 //!
 //! `RealFiles` and `RealOut` tell nothing, since nothing ties their bytes to the disk. What they decide is proved for whatever
 //! tells more, in functions over three traits of the crate's own. Over a `Source` and its `Reader`, `read_counted` answers the
-//! file's bytes from the place that was asked for, 0 of them only at its end, whether the file was opened for the piece or is still
-//! open from the one before; what isn't read is counted. Over a `Pipe`, `write_counted` answers how many bytes were taken, and a
-//! write that takes none is counted. Over a `Place`, `put_counted` ends well only where the named file has exactly the bytes. A
-//! `Place` says when a new file may take its name, and none is given it otherwise: the name is no link that is still to be
-//! followed, nothing stands there or a regular file of one name that may be written to, of the new file's owner, group and
-//! permissions, and all of the new file is stored. It says too when a file may be written in place: where one of these fails, or a
-//! call is refused, but never because the disk is full. That a new file is given its name or removed is the type's: its value can't
-//! be let go. The trait `Files` says none of this: after `Failed` a file may hold anything, so that nothing which is proved rests
-//! on the disk.
+//! file's bytes from the place that was asked for, 0 of them only at its end, whether the file was opened for the piece or is
+//! still open from the one before; what isn't read is counted. It opens a name only where a plain file was found there, and reads
+//! only what was found to be one once it was open, so that no pipe is waited for. Over a `Pipe`, `write_counted` answers how many
+//! bytes were taken, and a write that takes none is counted. Over a `Place`, `put_counted` ends well only where the named file
+//! has exactly the bytes. A `Place` says when a new file may take its name, and none is given it otherwise: the name is no link
+//! that is still to be followed, nothing stands there or a regular file of one name that may be written to, of the new file's
+//! owner, group and permissions, and all of the new file is stored. It says how a new file may be named (`.new1` to `.new100`)
+//! and with which permissions it may be made. It says too when a file may be written in place: where one of these fails, all
+//! hundred names are taken, or a call is refused, but never because the disk is full; and that a put fails only where it is full,
+//! or where what was written in place or into the new file isn't whole. That a new file is given its name or removed is the
+//! type's: its value can't be let go. The trait `Files` says none of this: after `Failed` a file may hold anything, so that
+//! nothing which is proved rests on the disk.
 //!
 //! What stands between these and the system is `src/system.rt`: small functions whose contracts say nothing, each of which makes
 //! one call and hands on what it answers. They, and `Facts::of`, which takes the facts from what the system tells, are only tested.

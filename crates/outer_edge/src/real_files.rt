@@ -16,7 +16,8 @@ use std::rt;
 /// failed puts as the count of every name.
 ///
 /// A file that is read stays open up to its end, to its next put or to a read of another place or file. So a long one is
-/// opened once, and read on as it was opened where another program replaces it meanwhile.
+/// opened once, and read on as it was opened where another program replaces it meanwhile. What is no plain file, after links
+/// are followed, isn't read: a folder, a pipe, a terminal or another device is a failed read at once.
 ///
 /// A put writes a new file in the same folder, and gives it the name when all of it is stored. So a put that fails, as on
 /// a full disk, leaves what stood there, and the new file is removed. Until then it is named as the file, with `.new1` at
@@ -30,7 +31,7 @@ use std::rt;
 /// - a file beside which no new one can be made or given its name for another reason than a full disk: the folder can't
 ///   be written to, the longer name isn't allowed, all hundred names are taken.
 ///
-/// A file that may not be written to is never replaced: its put fails.
+/// A file that may not be written to is never replaced: its put fails. A put to a pipe waits for its reader.
 #[derive(Drop)]
 pub struct RealFiles<R: rt::Files + Clone + Drop> {
     rt: R,

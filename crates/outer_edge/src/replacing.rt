@@ -1,7 +1,7 @@
 //! Files that are replaced by whole new ones: when, and in which order.
 
-ghost use Rattle.std.specs.Prelude.{◌≡◌, ◌≤◌, [], true, false, List, ℕ, IfOk, IsErrOf, OnOk, OnErr, MatchOption};
-ghost use Rattle.outer_edge.specs.Counts.{next_count};
+ghost use Rattle.std.specs.Prelude.{◌≡◌, ◌≤◌, [], true, false, List, ℕ, IfOk, IfErr, IsErrOf, OnOk, OnErr, MatchOption};
+ghost use Rattle.outer_edge.specs.{Counts.{next_count}, Replaced.{new_mode}};
 
 use crate::facts::{Facts, is_absence, is_of_system, is_taken, is_want_of_room};
 use crate::files::FileEnd;
@@ -32,6 +32,7 @@ pub enum Unreplaced {
 /// Follows a link to the file that it names, but none of the system.
 fn followed<P: Place>(place: &mut P) -> Result<(), Unreplaced>
     ensures itself { OnOk result (P.IsItself place.new) }
+    ensures not_failed { IsErrOf result Unreplaced.Failed → ⊥ }
     ensures unfit { IsErrOf result Unreplaced.Unfit → P.MayWriteOver place.new }
 {
     if !place.is_link() {
@@ -51,7 +52,9 @@ fn followed<P: Place>(place: &mut P) -> Result<(), Unreplaced>
 fn giving_way<P: Place>(place: &P) -> Result<Option<Facts>, Unreplaced>
     ensures gives_way { OnOk result (P.MayGiveWay place.now) }
     ensures found { IfOk result (λ old. MatchOption old (P.IsAbsent place.now) (λ f. P.IsFound place.now f)) }
+    ensures mode { IfOk result (λ old. P.MayHaveMode place.now (new_mode old)) }
     ensures unfit { OnErr result (P.MayWriteOver place.now) }
+    ensures end { IfErr result (λ end. end ≡ Unreplaced.Unfit) }
 {
     match place.facts() {
         Ok(found) if found.is_regular() && place.opens() => Ok(Some(found)),
@@ -60,15 +63,25 @@ fn giving_way<P: Place>(place: &P) -> Result<Option<Facts>, Unreplaced>
     }
 }
 
+/// The permissions with which a new file is made.
+fn new_mode(old: Option<Facts>) -> u32
+    ensures { result ≡ new_mode old }
+{
+    old.map_or(USUAL, |old| old.mode & PERMISSIONS)
+}
+
 /// Makes an empty file beside the named one.
 fn new_beside<P: Place>(place: &P, alloc: Global, old: Option<Facts>) -> Result<P::New, Unreplaced>
+    requires mode { P.MayHaveMode place.now (new_mode old) }
     ensures empty { IfOk result (λ new. P.Holds new []) }
     ensures alike { IfOk result (λ new. P.IsAbsent place.now → P.IsAlike place.now new) }
     ensures unfit { IsErrOf result Unreplaced.Unfit → P.MayWriteOver place.now }
+    ensures failed { IsErrOf result Unreplaced.Failed → P.MayFail place.now }
 {
-    let mode = old.map_or(USUAL, |old| old.mode & PERMISSIONS);
+    let name = place.name();
+    let mode = new_mode(old);
     'numbers: for number in 1..=GREATEST_NUMBER {
-        let Ok(path) = format!(in alloc; "{}.new{number}", place.name()) else {
+        let Ok(path) = format!(in alloc; "{name}.new{number}") else {
             return Err(Unreplaced::Memory);
         };
         match place.make(path, mode) {
@@ -112,6 +125,7 @@ fn made_whole<P: Place>(
     ensures bytes { OnOk result (P.Holds new.new bytes.now) }
     ensures stored { OnOk result (P.IsStored new.new) }
     ensures unfit { IsErrOf result Unreplaced.Unfit → P.MayWriteOver place.now }
+    ensures failed { IsErrOf result Unreplaced.Failed → P.MayFail place.now }
 {
     if !is_made_alike(place, new, old) {
         return Err(Unreplaced::Unfit);
@@ -135,6 +149,7 @@ fn named<P: Place>(
     requires empty { P.Holds new [] }
     ensures has { OnOk result (P.Has place.now bytes.now) }
     ensures unfit { IsErrOf result Unreplaced.Unfit → P.MayWriteOver place.now }
+    ensures failed { IsErrOf result Unreplaced.Failed → P.MayFail place.now }
 {
     if let Err(end) = made_whole(place, &mut new, old, bytes) {
         place.remove(new);
@@ -154,6 +169,7 @@ fn named<P: Place>(
 fn replace<P: Place>(place: &mut P, alloc: Global, bytes: &[u8]) -> Result<(), Unreplaced>
     ensures has { OnOk result (P.Has place.new bytes.now) }
     ensures unfit { IsErrOf result Unreplaced.Unfit → P.MayWriteOver place.new }
+    ensures failed { IsErrOf result Unreplaced.Failed → P.MayFail place.new }
 {
     followed(place)?;
     let old = giving_way(place)?;
@@ -169,6 +185,7 @@ pub fn put_counted<P: Place>(
     bytes: &[u8],
 ) -> Result<(), FileEnd>
     ensures has { OnOk result (P.Has place.new bytes.now) }
+    ensures failed { IsErrOf result FileEnd.Failed → P.MayFail place.new }
     ensures none_failed { OnOk result (faults.new ≡ faults.old) }
     ensures counted { IsErrOf result FileEnd.Failed → faults.new ≡ next_count faults.old }
     ensures memory { IsErrOf result FileEnd.Memory → faults.new ≡ faults.old }

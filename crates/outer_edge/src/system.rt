@@ -22,8 +22,14 @@ impl<P: Print> Pipe for P {
     }
 }
 
-impl<F: Read + Seek> Reader for F {
+impl<F: Read + Seek + OpenFile> Reader for F {
     ghost StandsAt = { λ f file at. ⊥ };
+
+    ghost IsPlain = { λ f. Unit {0} };
+
+    fn facts(&self) -> io::Result<Facts> {
+        Ok(Facts::of(&self.metadata()?))
+    }
 
     fn go_to(&mut self, at: u64) -> io::Result<u64> {
         self.seek(SeekFrom::Start(at))
@@ -39,9 +45,20 @@ impl<R: rt::Files> Source for R {
 
     ghost Holds = { λ r name file. ⊥ };
 
+    ghost IsPlain = { λ r name. Unit {0} };
+
+    fn facts(&self, name: &str) -> io::Result<Facts> {
+        facts_of(self, name)
+    }
+
     fn open(&self, name: &str) -> io::Result<R::File> {
         fs::open(self, name)
     }
+}
+
+/// What is found of the file of this name, where links are followed.
+fn facts_of<R: rt::Files>(rt: &R, name: &str) -> io::Result<Facts> {
+    Ok(Facts::of(&fs::metadata(rt, name)?))
 }
 
 /// A name of the system that is put to.
@@ -76,6 +93,14 @@ impl<R: rt::Files> Place for SystemPlace<'_, R> {
 
     ghost MayWriteOver = { λ p. Unit {0} };
 
+    ghost MayFail = { λ p. Unit {0} };
+
+    ghost MayBeNamed = { λ p path. Unit {0} };
+
+    ghost MayHaveMode = { λ p mode. Unit {0} };
+
+    ghost IsTaken = { λ p path. Unit {0} };
+
     ghost Has = { λ p bytes. Unit {0} };
 
     ghost Holds = { λ n bytes. Unit {0} };
@@ -103,7 +128,7 @@ impl<R: rt::Files> Place for SystemPlace<'_, R> {
     }
 
     fn facts(&self) -> io::Result<Facts> {
-        Ok(Facts::of(&fs::metadata(self.rt, self.name())?))
+        facts_of(self.rt, self.name())
     }
 
     fn opens(&self) -> bool {

@@ -1,8 +1,8 @@
 //! Counts the pivots of the dual simplex method on opening tableaus, for `scripts/bench`, which times it.
 //!
 //! The words are a number of signals and a number of rounds. Each round makes the opening tableau of the root box of
-//! the artery with so many signals, and steps it to its end. The line has the pivots of all rounds, without the two of
-//! each opening.
+//! the artery with so many signals, from rows that were loaded before as in a search, and steps it to its end. The line
+//! has the pivots of all rounds, without the two of each opening.
 #![tactic(auto)]
 
 mod artery;

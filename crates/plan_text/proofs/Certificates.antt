@@ -57,7 +57,8 @@ pub record TreeOf (names : Naming) (table : Table) (bytes : List ℕ) (ns : List
 pub tree_takes : (names : Naming) (table : Table) (line : ℕ) (bytes : List ℕ) (ns : List Node) → IsOver names table → tree_at names line bytes ≡ Ok ns → TreeOf names table bytes ns
 unfolding tree_at
 tree_takes names table line bytes ns over e =
-    let a = bind_ok (fixed_at line tree_line bytes) (λ rest. nodes_at names (length rest) 1 (line + 1) rest >>= λ nodes. fixed_at nodes.1 end_line nodes.2 >>= λ more. ends_after names nodes.0 nodes.1 more) ns e in
+    let a = bind_ok (fixed_at line tree_line bytes) (λ rest. nodes_at names (length rest) 1 (line + 1) rest >>= λ nodes. fixed_at nodes.1 end_line
+    nodes.2 >>= λ more. ends_after names nodes.0 nodes.1 more) ns e in
     let b = bind_ok (nodes_at names (length a.0) 1 (line + 1) a.0) (λ nodes. fixed_at nodes.1 end_line nodes.2 >>= λ more. ends_after names nodes.0 nodes.1 more) ns a.2 in
     let d = bind_ok (fixed_at b.0.1 end_line b.0.2) (λ more. ends_after names b.0.0 b.0.1 more) ns b.2 in
     let g = guard_ok (is_list names b.0.0) b.0.1 Shape (nothing_at (b.0.1 + 1) d.0 >>= λ nothing. Ok b.0.0) ns d.2 in
@@ -103,20 +104,23 @@ same_rows (r ∷ rs) = rw (eq-eqb r.family r.family refl, eq-eqb r.index r.index
 
 -- ---- nodes that can be written so
 
-told_named_rows : (table : Table) → Tells table → (ws : List Weight) → AllByRecursion (λ w. IsNamedIn table w.row) ws → AllByRecursion IsHeldWeight ws → AllByRecursion (ToldWeight (Named table) Plain) ws
+told_named_rows : (table : Table) → Tells table → (ws : List Weight) → AllByRecursion (λ w. IsNamedIn table w.row) ws → AllByRecursion IsHeldWeight ws
+    → AllByRecursion (ToldWeight (Named table) Plain) ws
 told_named_rows table tells [] named held = tt
 told_named_rows table tells (w ∷ ws) named held = (((tells, record { named = named.0; index = held.0.index }), held.0.by), told_named_rows table tells ws named.1 held.1)
 
 told_named : (table : Table) → Tells table → (n : Node) → IsNodeIn table n → IsHeldNode n → ToldNode (Named table) n
 told_named table tells (SplitAt (Loop link at)) kept held = (kept, held)
 told_named table tells (SplitAt (Turn signal rank)) kept held = (kept, held)
-told_named table tells (LeafOf ws) kept held = (kept.0, kept.1, tt, told_named_rows table tells ws (recursion_from_All (λ w. IsNamedIn table w.row) ws kept.2) (recursion_from_All IsHeldWeight ws held))
+told_named table tells (LeafOf ws) kept held =
+    (kept.0, kept.1, tt, told_named_rows table tells ws (recursion_from_All (λ w. IsNamedIn table w.row) ws kept.2) (recursion_from_All IsHeldWeight ws held))
 
 pub all_told_named : (table : Table) → Tells table → (ns : List Node) → AllByRecursion (IsNodeIn table) ns → AllByRecursion IsHeldNode ns → AllByRecursion (ToldNode (Named table)) ns
 all_told_named table tells [] kept held = tt
 all_told_named table tells (n ∷ ns) kept held = (told_named table tells n kept.0 held.0, all_told_named table tells ns kept.1 held.1)
 
-told_rows : (rows : List RowId) (form : LeafForm) (ws : List Weight) → AscendRows None rows → length rows < 2 ^ 64 → AllByRecursion (λ w. IsListed rows w.row) ws → AllByRecursion (Suits form) ws → AllByRecursion (ToldWeight (Listed rows) form) ws
+told_rows : (rows : List RowId) (form : LeafForm) (ws : List Weight) → AscendRows None rows → length rows < 2 ^ 64 → AllByRecursion (λ w. IsListed rows w.row) ws
+    → AllByRecursion (Suits form) ws → AllByRecursion (ToldWeight (Listed rows) form) ws
 told_rows rows form [] ascend few listed suits = tt
 told_rows rows form (w ∷ ws) ascend few listed suits = (((ascend, listed.0, few), suits.0), told_rows rows form ws ascend few listed.1 suits.1)
 
@@ -128,7 +132,8 @@ over_suits : (d : ℕ) (vs : List Weight) → 0 < d → AllByRecursion (λ (w : 
 over_suits d [] above divides wholes = tt
 over_suits d (v ∷ vs) above divides wholes = ((above, divides.0, wholes.0), over_suits d vs above divides.1 wholes.1)
 
-leaf_told : (rows : List RowId) (ws : List Weight) (form : LeafForm) → form_of ws ≡ form → AscendRows None rows → length rows < 2 ^ 64 → AllByRecursion (λ w. IsListed rows w.row) ws → AllByRecursion IsHeldWeight ws
+leaf_told : (rows : List RowId) (ws : List Weight) (form : LeafForm) → form_of ws ≡ form → AscendRows None rows → length rows < 2 ^ 64
+    → AllByRecursion (λ w. IsListed rows w.row) ws → AllByRecursion IsHeldWeight ws
     → IsFormed form × AllByRecursion (ToldWeight (Listed rows) form) ws
 leaf_told rows ws Plain e ascend few listed held = (tt, told_rows rows Plain ws ascend few listed (plain_suits ws held))
 leaf_told rows ws (Over d) e ascend few listed held =
@@ -143,7 +148,8 @@ told_second rows (LeafOf ws) ascend few kept held listed =
     let t = leaf_told rows ws (form_of ws) refl ascend few (recursion_from_All (λ (w : Weight). IsListed rows w.row) ws listed) (recursion_from_All IsHeldWeight ws held) in
     (kept.0, kept.1, t.0, t.1)
 
-all_told_second : (rows : List RowId) (ns : List Node) → AscendRows None rows → length rows < 2 ^ 64 → AllByRecursion IsNode ns → AllByRecursion IsHeldNode ns → AllByRecursion (AreListed rows) ns → AllByRecursion (ToldNode (Listed rows)) ns
+all_told_second : (rows : List RowId) (ns : List Node) → AscendRows None rows → length rows < 2 ^ 64 → AllByRecursion IsNode ns → AllByRecursion IsHeldNode ns
+    → AllByRecursion (AreListed rows) ns → AllByRecursion (ToldNode (Listed rows)) ns
 all_told_second rows [] ascend few kept held listed = tt
 all_told_second rows (n ∷ ns) ascend few kept held listed = (told_second rows n ascend few kept.0 held.0 listed.0, all_told_second rows ns ascend few kept.1 held.1 listed.1)
 
@@ -199,11 +205,13 @@ module _ {T : Type 0} (text : TimingText T) (laws : TimingLaws text) (table : Ta
   headed_again tells head one c h = ap (headed_of text table head) (sym (first_is text table head c)) ∙ rw (fixed_again 1 head (claim_and_tree text table c) one) (first_again tells c h)
 
 -- what the code read
-pub first_read : {T : Type 0} (text : TimingText T) (table : Table) (bytes : List ℕ) (x : Beginning T) (ns : List Node) → claim_at text bytes ≡ Ok x → tree_at (Named table) x.2 x.3 ≡ Ok ns → first_of text table bytes ≡ Ok (record { claim = x.0; timing = x.1; nodes = ns })
+pub first_read : {T : Type 0} (text : TimingText T) (table : Table) (bytes : List ℕ) (x : Beginning T) (ns : List Node) → claim_at text bytes ≡ Ok x
+    → tree_at (Named table) x.2 x.3 ≡ Ok ns → first_of text table bytes ≡ Ok (record { claim = x.0; timing = x.1; nodes = ns })
 unfolding first_of
 first_read text table bytes x ns e f = rw (e, f) refl
 
-pub second_read : (bytes : List ℕ) (x : Beginning TimingRecord) (rows : List RowId × ℕ × List ℕ) (ns : List Node) → claim_at one_band bytes ≡ Ok x → rows_at ordinary x.2 x.3 ≡ Ok rows → tree_at (Listed rows.0) rows.1 rows.2 ≡ Ok ns → second_of bytes ≡ Ok (record { claim = x.0; timing = x.1; nodes = ns })
+pub second_read : (bytes : List ℕ) (x : Beginning TimingRecord) (rows : List RowId × ℕ × List ℕ) (ns : List Node) → claim_at one_band bytes ≡ Ok x
+    → rows_at ordinary x.2 x.3 ≡ Ok rows → tree_at (Listed rows.0) rows.1 rows.2 ≡ Ok ns → second_of bytes ≡ Ok (record { claim = x.0; timing = x.1; nodes = ns })
 unfolding second_of
 second_read bytes x rows ns e g f = rw (e, g, f) refl
 
@@ -229,7 +237,8 @@ record SecondOf (bytes : List ℕ) (c : Warrant) : Type 0 where
 second_takes : (bytes : List ℕ) (c : Warrant) → second_of bytes ≡ Ok c → SecondOf bytes c
 unfolding second_of
 second_takes bytes c e =
-    let b = bind_ok (claim_at one_band bytes) (λ opening. rows_at ordinary opening.2 opening.3 >>= λ rows. tree_at (Listed rows.0) rows.1 rows.2 >>= λ nodes. Ok (record { claim = opening.0; timing = opening.1; nodes = nodes })) c e in
+    let b = bind_ok (claim_at one_band bytes) (λ opening. rows_at ordinary opening.2 opening.3 >>= λ rows. tree_at (Listed rows.0) rows.1 rows.2 >>=
+    λ nodes. Ok (record { claim = opening.0; timing = opening.1; nodes = nodes })) c e in
     let f = bind_ok (rows_at ordinary b.0.2 b.0.3) (λ rows. tree_at (Listed rows.0) rows.1 rows.2 >>= λ nodes. Ok (record { claim = b.0.0; timing = b.0.1; nodes = nodes })) c b.2 in
     let d = bind_ok (tree_at (Listed f.0.0) f.0.1 f.0.2) (λ nodes. Ok (record { claim = b.0.0; timing = b.0.1; nodes = nodes })) c f.2 in
     let k = claim_takes one_band one_band_laws bytes b.0 b.1 in
@@ -252,7 +261,8 @@ second_again c h =
     let ascend = rows_ascend c.nodes in
     let few = few_rows rows ascend all in
     let second = rows_again ordinary (claim_end 8 c.claim) rows (tree_and_end (Listed rows) c.nodes) ordinary_tells few ascend all in
-    let told = all_told_second rows c.nodes ascend few (recursion_from_All IsNode c.nodes h.kept.nodes) (recursion_from_All IsHeldNode c.nodes h.nodes) (recursion_from_All (AreListed rows) c.nodes (rows_have c.nodes)) in
+    let told = all_told_second rows c.nodes ascend few (recursion_from_All IsNode c.nodes h.kept.nodes) (recursion_from_All IsHeldNode c.nodes h.nodes)
+    (recursion_from_All (AreListed rows) c.nodes (rows_have c.nodes)) in
     rw (first, second, tree_again (Listed rows) (claim_end 8 c.claim + 1 + length rows) c.nodes h.kept.tree told (same_rows rows)) refl
 
 -- ---- the whole
@@ -261,7 +271,8 @@ pub record WarrantOf (bytes : List ℕ) (c : Warrant) : Type 0 where
   pub parts : (bytes ≡ certificate_text c) ⊎ (bytes ≡ second_text c)
   pub held : IsHeldWarrant c
 
-text_takes : (bytes text after : List ℕ) (c : Warrant) (a b : Bool) → bytes ≡ text ++ 10 ∷ after → (a ≡ true → text ≡ certificate_line) → (b ≡ true → text ≡ second_line) → (if a then first_of one_band ordinary after else (if b then second_of after else fault 1 Shape)) ≡ Ok c → WarrantOf bytes c
+text_takes : (bytes text after : List ℕ) (c : Warrant) (a b : Bool) → bytes ≡ text ++ 10 ∷ after → (a ≡ true → text ≡ certificate_line)
+    → (b ≡ true → text ≡ second_line) → (if a then first_of one_band ordinary after else (if b then second_of after else fault 1 Shape)) ≡ Ok c → WarrantOf bytes c
 text_takes bytes text after c true b parts is other e =
     let f = first_takes one_band one_band_laws ordinary after c e in
     record { parts = inl (parts ∙ (λ i. is refl i ++ 10 ∷ f.parts i) ∙ first_is one_band ordinary certificate_line c); held = f.held }

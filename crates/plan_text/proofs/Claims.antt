@@ -101,14 +101,16 @@ module _ {T : Type 0} (text : TimingText T) (laws : TimingLaws text) where
         held = tt;
       })
 
-  open_by : (bound : ℚ) (ws : List (List ℕ)) (after bytes : List ℕ) (x : Beginning T) (b : Bool) → FitsFrac bound → bytes ≡ line_of ws ++ 10 ∷ after → (if b then found_at text bound ws after else missing_at bound bytes) ≡ Ok x → ClaimOf text (bounded bound bytes) x
+  open_by : (bound : ℚ) (ws : List (List ℕ)) (after bytes : List ℕ) (x : Beginning T) (b : Bool) → FitsFrac bound → bytes ≡ line_of ws ++ 10 ∷ after
+      → (if b then found_at text bound ws after else missing_at bound bytes) ≡ Ok x → ClaimOf text (bounded bound bytes) x
   open_by bound ws after bytes x true fits parts e = subst (λ (y : List ℕ). ClaimOf text (bounded bound y) x) (sym parts) (found_takes bound ws after x fits e)
   open_by bound ws after bytes x false fits parts e = missing_takes bound bytes x fits e
 
   open_takes : (bytes : List ℕ) (x : Beginning T) → open_at text bytes ≡ Ok x → ClaimOf text (open_line ++ 10 ∷ bytes) x
   unfolding open_at
   open_takes bytes x e =
-      let a = bind_ok (words_at 3 bytes) (λ l. fraction_of bound_key 3 l.0 >>= λ bound. words_at 4 l.1 >>= λ m. if begins_with value_key m.0 then found_at text bound m.0 m.1 else missing_at bound l.1) x e in
+      let a = bind_ok (words_at 3 bytes) (λ l. fraction_of bound_key 3 l.0 >>= λ bound. words_at 4 l.1 >>= λ m. if begins_with value_key m.0 then found_at
+      text bound m.0 m.1 else missing_at bound l.1) x e in
       let b = bind_ok (fraction_of bound_key 3 a.0.0) (λ bound. words_at 4 a.0.1 >>= λ m. if begins_with value_key m.0 then found_at text bound m.0 m.1 else missing_at bound a.0.1) x a.2 in
       let d = bind_ok (words_at 4 a.0.1) (λ m. if begins_with value_key m.0 then found_at text b.0 m.0 m.1 else missing_at b.0 a.0.1) x b.2 in
       let f = fraction_takes bound_key 3 a.0.0 b.0 b.1 in
@@ -117,7 +119,8 @@ module _ {T : Type 0} (text : TimingText T) (laws : TimingLaws text) where
       (open_by b.0 d.0.0 d.0.1 a.0.1 x (begins_with value_key d.0.0) f.fits (words_take 4 a.0.1 d.0 d.1) d.2)
 
   -- the verdict's line and what follows
-  verdict_open : (verdict bytes : List ℕ) (x : Beginning T) (b : Bool) → (b ≡ true → verdict ≡ open_line) → (if b then open_at text bytes else fault 2 Shape) ≡ Ok x → ClaimOf text (verdict ++ 10 ∷ bytes) x
+  verdict_open : (verdict bytes : List ℕ) (x : Beginning T) (b : Bool) → (b ≡ true → verdict ≡ open_line) → (if b then open_at text bytes else fault 2 Shape) ≡ Ok x
+      → ClaimOf text (verdict ++ 10 ∷ bytes) x
   verdict_open verdict bytes x true is e = subst (λ (y : List ℕ). ClaimOf text (y ++ 10 ∷ bytes) x) (sym (is refl)) (open_takes bytes x e)
   verdict_open verdict bytes x false is e = absurd cc
 
@@ -127,12 +130,14 @@ module _ {T : Type 0} (text : TimingText T) (laws : TimingLaws text) where
       let made : Beginning T = (NoTiming, None, 3, bytes) in
       moved (ClaimOf text (none_line ++ 10 ∷ bytes)) made x e (record { parts = refl; timing = tt; claim = tt; held = tt })
 
-  verdict_none : (verdict bytes : List ℕ) (x : Beginning T) (b : Bool) → (b ≡ true → verdict ≡ none_line) → (if b then Ok (NoTiming, None, 3, bytes) else (if is_text verdict open_line then open_at text bytes else fault 2 Shape)) ≡ Ok x → ClaimOf text (verdict ++ 10 ∷ bytes) x
+  verdict_none : (verdict bytes : List ℕ) (x : Beginning T) (b : Bool) → (b ≡ true → verdict ≡ none_line)
+      → (if b then Ok (NoTiming, None, 3, bytes) else (if is_text verdict open_line then open_at text bytes else fault 2 Shape)) ≡ Ok x → ClaimOf text (verdict ++ 10 ∷ bytes) x
   verdict_none verdict bytes x true is e = subst (λ (y : List ℕ). ClaimOf text (y ++ 10 ∷ bytes) x) (sym (is refl)) (none_takes bytes x e)
   verdict_none verdict bytes x false is e = verdict_open verdict bytes x (is_text verdict open_line) (same_text verdict open_line) e
 
   verdict_best : (verdict bytes : List ℕ) (x : Beginning T) (b : Bool) → (b ≡ true → verdict ≡ best_line)
-      → (if b then best_at text bytes else (if is_text verdict none_line then Ok (NoTiming, None, 3, bytes) else (if is_text verdict open_line then open_at text bytes else fault 2 Shape))) ≡ Ok x → ClaimOf text (verdict ++ 10 ∷ bytes) x
+      → (if b then best_at text bytes else (if is_text verdict none_line then Ok (NoTiming, None, 3, bytes) else (if is_text verdict open_line then open_at text bytes else fault 2 Shape)))
+      ≡ Ok x → ClaimOf text (verdict ++ 10 ∷ bytes) x
   verdict_best verdict bytes x true is e = subst (λ (y : List ℕ). ClaimOf text (y ++ 10 ∷ bytes) x) (sym (is refl)) (best_takes bytes x e)
   verdict_best verdict bytes x false is e = verdict_none verdict bytes x (is_text verdict none_line) (same_text verdict none_line) e
 
@@ -165,7 +170,8 @@ no_words : (rest : List ℕ) → words_at 4 (no_timing_line ++ 10 ∷ rest) ≡ 
 no_words rest = words_again 4 (codes "no") (codes "timing" ∷ []) rest (record { spaces = refl; feeds = refl }, (record { spaces = refl; feeds = refl }, tt))
 
 module _ {T : Type 0} (text : TimingText T) (laws : TimingLaws text) where
-  pub claim_again : (claim : Claim) (timing : Option T) (rest : List ℕ) → HasTiming claim timing → IsHeldClaim claim → IsHeldTiming text timing → claim_at text (ended_and (claim_lines text claim timing) rest) ≡ Ok (claim, timing, claim_end text.height claim, rest)
+  pub claim_again : (claim : Claim) (timing : Option T) (rest : List ℕ) → HasTiming claim timing → IsHeldClaim claim → IsHeldTiming text timing
+      → claim_at text (ended_and (claim_lines text claim timing) rest) ≡ Ok (claim, timing, claim_end text.height claim, rest)
   unfolding claim_at verdict_of best_at open_at found_at missing_at claim_lines
   claim_again (Best value) None rest has fits held = absurd has
   claim_again (Best value) (Some t) rest has fits held =

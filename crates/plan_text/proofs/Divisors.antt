@@ -127,7 +127,8 @@ rule_left d vs ws h over_d e =
 rule_right : (d : ℕ) (vs : List ℤ) (ws : List Weight) → 0 < d → AreOver d vs ws → divisor_from d vs ≡ 1 → denominator_of ws ≡ d
 rule_right d vs ws h over_d e =
     let l = denominator_of ws in
-    let own : All (OverHas d d) vs = λ k z lt. subst (λ n. (over (get_or vs k z) d).den ∣ n) (taken (get_or vs k z) d h) (dvd-mul_left (over (get_or vs k z) d).den (gcd (unsigned_abs (get_or vs k z)) d)) in
+    let own : All (OverHas d d) vs = λ k z lt. subst (λ n. (over (get_or vs k z) d).den ∣ n) (taken (get_or vs k z) d h)
+    (dvd-mul_left (over (get_or vs k z) d).den (gcd (unsigned_abs (get_or vs k z)) d)) in
     let under : l ∣ d = (least ws d).1 (by_values d d vs ws over_d own) in
     let whole : l * (d / l) ≡ d = mul-div_cancel' l under in
     let each : All (OverHas d l) vs = by_weights d l vs ws over_d ((least ws l).0 (dvd_refl l)) in

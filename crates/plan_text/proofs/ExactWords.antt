@@ -1,5 +1,6 @@
 -- Words that spell signed whole numbers and fractions.
-use Rattle.std.proofs.Common.{◌≡◌, ℕ, ℤ, pos, negsuc, neg_ℤ, zero, suc, ◌<◌, ◌≤◌, ◌^◌, Bool, true, false, List, [], ◌∷◌, ◌++◌, Option, Some, None, ltb, leb, ltb-true, lt-ltb, eqb-true, refl, sym, ap, ◌∙◌, subst, unsigned_abs, append-nil, arith}
+use Rattle.std.proofs.Common.{◌≡◌, ℕ, ℤ, pos, negsuc, neg_ℤ, zero, suc, ◌<◌, ◌≤◌, ◌^◌, Bool, true, false, List, [], ◌∷◌, ◌++◌, Option, Some, None}
+use Rattle.std.proofs.Common.{ltb, leb, ltb-true, lt-ltb, eqb-true, refl, sym, ap, ◌∙◌, subst, unsigned_abs, append-nil, arith}
 use Rattle.std.specs.Prelude.{◌&&◌, ◌==◌, option_and_then, if◌then◌else◌, FitsSigned}
 use Rattle.std.specs.Int.{w64}
 use Rattle.std.specs.Fmt.{decimal, signed_decimal}
@@ -47,7 +48,8 @@ narrow n h = omega (arith, h)
 
 lacks_exact : (b : ℕ) (x : ℚ) → b < 48 → (45 == b) ≡ false → (47 == b) ≡ false → FitsFrac x → lacks b (exact_spelling x) ≡ true
 lacks_exact b x small minus slash f =
-    lacks_append b (signed_decimal x.num) (denominator_text x.den) (lacks_signed b x.num small minus (narrow _ f.num_fits)) (lacks_den b (x.den == 1) (decimal x.den) slash (lacks_wide b x.den small (narrow _ f.den_fits)))
+    lacks_append b (signed_decimal x.num) (denominator_text x.den) (lacks_signed b x.num small minus (narrow _ f.num_fits))
+    (lacks_den b (x.den == 1) (decimal x.den) slash (lacks_wide b x.den small (narrow _ f.den_fits)))
 
 -- a fraction's spelling is one word
 pub exact_word : (x : ℚ) → FitsFrac x → IsKey (exact_spelling x)
@@ -76,7 +78,8 @@ quotient_by w z d false is l v k = rw (cut_again 47 w (decimal d) l) (λ i. over
 
 quotient_again : (x : ℚ) → FitsFrac x → quotient_of (exact_spelling x) (cut 47 (exact_spelling x)) ≡ x
 quotient_again x f =
-    quotient_by (signed_decimal x.num) x.num x.den (x.den == 1) (eqb-true x.den 1) (lacks_signed 47 x.num (omega arith) refl (narrow _ f.num_fits)) (value_again x.num (narrow _ f.num_fits)) (value_wide x.den (narrow _ f.den_fits))
+    quotient_by (signed_decimal x.num) x.num x.den (x.den == 1) (eqb-true x.den 1) (lacks_signed 47 x.num (omega arith) refl (narrow _ f.num_fits))
+    (value_again x.num (narrow _ f.num_fits)) (value_wide x.den (narrow _ f.den_fits))
     ∙ over-own x
 
 narrow_by : (a b : Bool) (x : ℚ) → a ≡ true → b ≡ true → (if a && b then Some x else None) ≡ Some x
@@ -171,7 +174,8 @@ below_takes w (suc n) z e f =
     let few : suc n ≤ 2 ^ 63 = leb-true _ _ b.1 in
     subst (SpellsInteger (45 ∷ w)) g.1 (record { spelled = ap (λ (y : List ℕ). 45 ∷ y) (decimal-number w (suc n) e).0; fits = fits_neg n (omega arith) })
 
-integer_by : (c : ℕ) (cs : List ℕ) (z : ℤ) (b : Bool) → (b ≡ true → c ≡ 45) → (if b then option_and_then below_zero (number cs) else option_and_then from_zero (number (c ∷ cs))) ≡ Some z → SpellsInteger (c ∷ cs) z
+integer_by : (c : ℕ) (cs : List ℕ) (z : ℤ) (b : Bool) → (b ≡ true → c ≡ 45) → (if b then option_and_then below_zero (number cs) else option_and_then from_zero (number (c ∷ cs))) ≡ Some z
+    → SpellsInteger (c ∷ cs) z
 integer_by c cs z true is e =
     subst (λ (d : ℕ). SpellsInteger (d ∷ cs) z) (sym (is refl)) (option_and_then_some below_zero (number cs) z e (λ n p q. below_takes cs n z p q))
 integer_by c cs z false is e = option_and_then_some from_zero (number (c ∷ cs)) z e (λ n p q. from_takes (c ∷ cs) n z p q)

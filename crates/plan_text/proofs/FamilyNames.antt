@@ -72,7 +72,8 @@ later n name names w f p =
     one_on : f - n ≡ suc (f - (n + 1)) → slice_index_or (name ∷ names) (f - n) [] ≡ slice_index_or names (f - (n + 1)) []
     one_on e = ap (λ (k : ℕ). slice_index_or (name ∷ names) k []) e
 
-found_by : (n : ℕ) (name : List ℕ) (names : List (List ℕ)) (w : List ℕ) (f : ℕ) (b : Bool) → (b ≡ true → name ≡ w) → (number_in (n + 1) names w ≡ Some f → IsFound (n + 1) names w f) → (if b then Some n else number_in (n + 1) names w) ≡ Some f → IsFound n (name ∷ names) w f
+found_by : (n : ℕ) (name : List ℕ) (names : List (List ℕ)) (w : List ℕ) (f : ℕ) (b : Bool) → (b ≡ true → name ≡ w) → (number_in (n + 1) names w ≡ Some f → IsFound (n + 1) names w f)
+    → (if b then Some n else number_in (n + 1) names w) ≡ Some f → IsFound n (name ∷ names) w f
 found_by n name names w f true is more e =
     let k : n ≡ f = cc in
     subst (IsFound n (name ∷ names) w) k (record { least = omega arith; most = omega arith; name = sym (is refl) ∙ sym (first (omega arith)) })

@@ -187,7 +187,8 @@ each_in place ns suits = All-from_recursion (λ n. (place.least ≤ n) × (n ≤
 abbrev Given : List ℕ → NumberLine → List ℕ → Result (Vec ℕ × Bor (List ℕ)) TextEnd → Type 0
 Given key place bytes r = Gives (λ (x : Vec ℕ × Bor (List ℕ)). (x.0.items, x.1.now)) r (numbers_at key place bytes)
 
-read_has : (key : List ℕ) (place : NumberLine) (bytes : List ℕ) (Q : List ℕ → Type 0) (r : Result (Vec ℕ × Bor (List ℕ)) TextEnd) → ((ns : List ℕ) → Suits place ns → Q ns) → Given key place bytes r → IfOk r (λ x. Q x.0.items)
+read_has : (key : List ℕ) (place : NumberLine) (bytes : List ℕ) (Q : List ℕ → Type 0) (r : Result (Vec ℕ × Bor (List ℕ)) TextEnd)
+    → ((ns : List ℕ) → Suits place ns → Q ns) → Given key place bytes r → IfOk r (λ x. Q x.0.items)
 read_has key place bytes Q (Ok x) h given = h x.0.items (numbers_take key place bytes (x.0.items, x.1.now) given).1
 read_has key place bytes Q (Err e) h given = tt
 
@@ -197,5 +198,6 @@ read_fewest key place bytes r given = read_has key place bytes (λ ns. place.few
 pub read_most : (key : List ℕ) (place : NumberLine) (bytes : List ℕ) (r : Result (Vec ℕ × Bor (List ℕ)) TextEnd) → Given key place bytes r → IfOk r (λ x. length x.0.items ≤ place.most)
 read_most key place bytes r given = read_has key place bytes (λ ns. length ns ≤ place.most) r (λ ns suits. suits.most) given
 
-pub read_each : (key : List ℕ) (place : NumberLine) (bytes : List ℕ) (r : Result (Vec ℕ × Bor (List ℕ)) TextEnd) → Given key place bytes r → IfOk r (λ x. All (λ n. (place.least ≤ n) × (n ≤ place.greatest)) x.0.items)
+pub read_each : (key : List ℕ) (place : NumberLine) (bytes : List ℕ) (r : Result (Vec ℕ × Bor (List ℕ)) TextEnd) → Given key place bytes r
+    → IfOk r (λ x. All (λ n. (place.least ≤ n) × (n ≤ place.greatest)) x.0.items)
 read_each key place bytes r given = read_has key place bytes (All (λ n. (place.least ≤ n) × (n ≤ place.greatest))) r (each_in place) given

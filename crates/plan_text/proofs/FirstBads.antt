@@ -25,7 +25,8 @@ use Rattle.plan_text.proofs.Grown.{after_line, one_and, numbered, line_grows, fi
 use Rattle.plan_text.proofs.GrownTimings.{plan_read}
 use Rattle.plan_text.proofs.TimingLaws.{TimingLaws, one_band_laws}
 use Rattle.plan_text.proofs.GrownCertificates.{opened, rows_grow, rows_later, nodes_grow, nodes_later, claim_grows, claim_later}
-use Rattle.plan_text.proofs.Wholes.{Whole, NotBefore, whole_then, whole_made, not_before, not_before_made, closing, closing_whole, closing_later, nothing_whole, nothing_later, guard_whole, guard_not_before, chosen_whole, chosen_not_before, names_first}
+use Rattle.plan_text.proofs.Wholes.{Whole, NotBefore, whole_then, whole_made, not_before, not_before_made, closing, closing_whole, closing_later}
+use Rattle.plan_text.proofs.Wholes.{nothing_whole, nothing_later, guard_whole, guard_not_before, chosen_whole, chosen_not_before, names_first}
 
 -- ---- a timing
 
@@ -36,8 +37,10 @@ timing_whole : (bytes z : List ℕ) → Whole (lines_in bytes + 1) (timing_of by
 unfolding timing_of
 timing_whole bytes z =
     let last = lines_in bytes + 1 in
-    whole_then (after_line 2) last z (fixed_at 1 head_line bytes) (fixed_at 1 head_line (bytes ++ z)) (λ rest. plan_at 2 rest >>= close_timing) (λ rest. plan_at 2 rest >>= close_timing) (fixed_grows last 1 head_line bytes z (omega arith))
-    (λ rest end. whole_then (one_and 10) last z (plan_at 2 rest) (plan_at 2 (rest ++ z)) close_timing close_timing ((plan_read 2).grows last rest z end) (λ t k. closing_whole t.0 last 10 t.1 z k) (λ t here. closing_later t.0 last 10 t.1 (omega arith)))
+    whole_then (after_line 2) last z (fixed_at 1 head_line bytes) (fixed_at 1 head_line (bytes ++ z)) (λ rest. plan_at 2 rest >>= close_timing)
+    (λ rest. plan_at 2 rest >>= close_timing) (fixed_grows last 1 head_line bytes z (omega arith))
+    (λ rest end. whole_then (one_and 10) last z (plan_at 2 rest) (plan_at 2 (rest ++ z)) close_timing close_timing ((plan_read 2).grows last rest z end)
+    (λ t k. closing_whole t.0 last 10 t.1 z k) (λ t here. closing_later t.0 last 10 t.1 (omega arith)))
     (λ rest here. not_before (one_and 10) last (plan_at 2 rest) close_timing ((plan_read 2).later last rest (omega arith)) (λ t k. closing_later t.0 last 10 t.1 (omega arith)))
 
 timing_first : NamesFirstBad timing_of
@@ -58,15 +61,19 @@ close_tree names nodes = fixed_at nodes.1 end_line nodes.2 >>= ends_after names 
 close_whole : (names : Naming) (last : ℕ) (nodes : Nodes) (z : List ℕ) → nodes.1 + lines_in nodes.2 ≡ last → Whole last (close_tree names nodes) (close_tree names (nodes.0, nodes.1, nodes.2 ++ z))
 close_whole names last nodes z e =
     let line = nodes.1 in
-    whole_then (after_line (line + 1)) last z (fixed_at line end_line nodes.2) (fixed_at line end_line (nodes.2 ++ z)) (ends_after names nodes.0 line) (ends_after names nodes.0 line) (fixed_grows last line end_line nodes.2 z e)
-    (λ r end. guard_whole last line (is_list names nodes.0) (nothing_more nodes.0 line r) (nothing_more nodes.0 line (r ++ z)) (omega arith) (whole_made last (nothing_at (line + 1) r) (nothing_at (line + 1) (r ++ z)) (λ n. nodes.0) (nothing_whole last (line + 1) r z end)))
-    (λ r here. guard_not_before last line (is_list names nodes.0) (nothing_more nodes.0 line r) (omega arith) (not_before_made last (nothing_at (line + 1) r) (λ n. nodes.0) (nothing_later last (line + 1) r (omega arith))))
+    whole_then (after_line (line + 1)) last z (fixed_at line end_line nodes.2) (fixed_at line end_line (nodes.2 ++ z)) (ends_after names nodes.0 line)
+    (ends_after names nodes.0 line) (fixed_grows last line end_line nodes.2 z e)
+    (λ r end. guard_whole last line (is_list names nodes.0) (nothing_more nodes.0 line r) (nothing_more nodes.0 line (r ++ z)) (omega arith)
+    (whole_made last (nothing_at (line + 1) r) (nothing_at (line + 1) (r ++ z)) (λ n. nodes.0) (nothing_whole last (line + 1) r z end)))
+    (λ r here. guard_not_before last line (is_list names nodes.0) (nothing_more nodes.0 line r) (omega arith)
+    (not_before_made last (nothing_at (line + 1) r) (λ n. nodes.0) (nothing_later last (line + 1) r (omega arith))))
 
 close_later : (names : Naming) (last : ℕ) (nodes : Nodes) → last ≤ nodes.1 → NotBefore last (close_tree names nodes)
 close_later names last nodes before =
     let line = nodes.1 in
     not_before (after_line (line + 1)) last (fixed_at line end_line nodes.2) (ends_after names nodes.0 line) (fixed_later last line end_line nodes.2 before)
-    (λ r here. guard_not_before last line (is_list names nodes.0) (nothing_more nodes.0 line r) before (not_before_made last (nothing_at (line + 1) r) (λ n. nodes.0) (nothing_later last (line + 1) r (omega arith))))
+    (λ r here. guard_not_before last line (is_list names nodes.0) (nothing_more nodes.0 line r) before
+    (not_before_made last (nothing_at (line + 1) r) (λ n. nodes.0) (nothing_later last (line + 1) r (omega arith))))
 
 abbrev tree_then : Naming → ℕ → List ℕ → Result (List Node) BadText
 tree_then names line rest = nodes_at names (length rest) 1 (line + 1) rest >>= close_tree names
@@ -76,34 +83,40 @@ tree_then_whole names last line rest z e =
     let steps = length (rest ++ z) in
     let longer : length (rest ++ z) ≡ length rest + length z = length-append rest z in
     subst (λ (y : Result Nodes BadText). Whole last (y >>= close_tree names) (tree_then names line (rest ++ z))) (enough names steps (length rest) 1 (line + 1) rest (omega arith) (omega arith))
-    (whole_then numbered last z (nodes_at names steps 1 (line + 1) rest) (nodes_at names steps 1 (line + 1) (rest ++ z)) (close_tree names) (close_tree names) (nodes_grow names steps 1 last (line + 1) rest z (omega arith) e)
+    (whole_then numbered last z (nodes_at names steps 1 (line + 1) rest) (nodes_at names steps 1 (line + 1) (rest ++ z)) (close_tree names) (close_tree names)
+    (nodes_grow names steps 1 last (line + 1) rest z (omega arith) e)
     (λ ns end. close_whole names last ns z end)
     (λ ns here. close_later names last ns (omega arith)))
 
 tree_then_later : (names : Naming) (last line : ℕ) (rest : List ℕ) → last < line + 1 → NotBefore last (tree_then names line rest)
 tree_then_later names last line rest before =
-    not_before numbered last (nodes_at names (length rest) 1 (line + 1) rest) (close_tree names) (nodes_later names (length rest) 1 last (line + 1) rest before) (λ ns here. close_later names last ns (omega arith))
+    not_before numbered last (nodes_at names (length rest) 1 (line + 1) rest) (close_tree names) (nodes_later names (length rest) 1 last (line + 1) rest before)
+    (λ ns here. close_later names last ns (omega arith))
 
 tree_whole : (names : Naming) (last line : ℕ) (bytes z : List ℕ) → line + lines_in bytes ≡ last → Whole last (tree_at names line bytes) (tree_at names line (bytes ++ z))
 unfolding tree_at
 tree_whole names last line bytes z e =
-    whole_then (after_line (line + 1)) last z (fixed_at line tree_line bytes) (fixed_at line tree_line (bytes ++ z)) (tree_then names line) (tree_then names line) (fixed_grows last line tree_line bytes z e)
+    whole_then (after_line (line + 1)) last z (fixed_at line tree_line bytes) (fixed_at line tree_line (bytes ++ z)) (tree_then names line)
+    (tree_then names line) (fixed_grows last line tree_line bytes z e)
     (λ rest end. tree_then_whole names last line rest z end)
     (λ rest here. tree_then_later names last line rest here)
 
 tree_later : (names : Naming) (last line : ℕ) (bytes : List ℕ) → last ≤ line → NotBefore last (tree_at names line bytes)
 unfolding tree_at
 tree_later names last line bytes before =
-    not_before (after_line (line + 1)) last (fixed_at line tree_line bytes) (tree_then names line) (fixed_later last line tree_line bytes before) (λ rest here. tree_then_later names last line rest here)
+    not_before (after_line (line + 1)) last (fixed_at line tree_line bytes) (tree_then names line) (fixed_later last line tree_line bytes before)
+    (λ rest here. tree_then_later names last line rest here)
 
 abbrev make_warrant : {T : Type 0} → Beginning T → List Node → WarrantWith T
 make_warrant opening nodes = record { claim = opening.0; timing = opening.1; nodes = nodes }
 
 -- a tree, whose warrant is made
-warrant_whole : {T : Type 0} (opening : Beginning T) (names : Naming) (last line : ℕ) (bytes z : List ℕ) → line + lines_in bytes ≡ last → Whole last (tree_at names line bytes >>= λ nodes. Ok (make_warrant opening nodes)) (tree_at names line (bytes ++ z) >>= λ nodes. Ok (make_warrant opening nodes))
+warrant_whole : {T : Type 0} (opening : Beginning T) (names : Naming) (last line : ℕ) (bytes z : List ℕ) → line + lines_in bytes ≡ last
+    → Whole last (tree_at names line bytes >>= λ nodes. Ok (make_warrant opening nodes)) (tree_at names line (bytes ++ z) >>= λ nodes. Ok (make_warrant opening nodes))
 warrant_whole opening names last line bytes z e = whole_made last (tree_at names line bytes) (tree_at names line (bytes ++ z)) (make_warrant opening) (tree_whole names last line bytes z e)
 
-warrant_later : {T : Type 0} (opening : Beginning T) (names : Naming) (last line : ℕ) (bytes : List ℕ) → last ≤ line → NotBefore last (tree_at names line bytes >>= λ nodes. Ok (make_warrant opening nodes))
+warrant_later : {T : Type 0} (opening : Beginning T) (names : Naming) (last line : ℕ) (bytes : List ℕ) → last ≤ line
+    → NotBefore last (tree_at names line bytes >>= λ nodes. Ok (make_warrant opening nodes))
 warrant_later opening names last line bytes before = not_before_made last (tree_at names line bytes) (make_warrant opening) (tree_later names last line bytes before)
 
 module _ {T : Type 0} (text : TimingText T) (laws : TimingLaws text) (table : Table) where
@@ -162,9 +175,12 @@ unfolding certificate_of
 certificate_whole bytes z =
     let last = lines_in bytes + 1 in
     whole_then (one_and 2) last z (line_at 1 bytes) (line_at 1 (bytes ++ z)) text_by text_by (line_grows last 1 bytes z (omega arith))
-    (λ l end. chosen_whole last (is_text l.0 certificate_line) (first_of one_band ordinary l.1) (first_of one_band ordinary (l.1 ++ z)) (if is_text l.0 second_line then second_of l.1 else fault 1 Shape) (if is_text l.0 second_line then second_of (l.1 ++ z) else fault 1 Shape) (first_whole one_band one_band_laws ordinary last l.1 z end)
+    (λ l end. chosen_whole last (is_text l.0 certificate_line) (first_of one_band ordinary l.1) (first_of one_band ordinary (l.1 ++ z))
+    (if is_text l.0 second_line then second_of l.1 else fault 1 Shape) (if is_text l.0 second_line then second_of (l.1 ++ z) else fault 1 Shape)
+    (first_whole one_band one_band_laws ordinary last l.1 z end)
     (guard_whole last 1 (is_text l.0 second_line) (second_of l.1) (second_of (l.1 ++ z)) (omega arith) (second_whole last l.1 z end)))
-    (λ l here. chosen_not_before last (is_text l.0 certificate_line) (first_of one_band ordinary l.1) (if is_text l.0 second_line then second_of l.1 else fault 1 Shape) (first_later one_band one_band_laws ordinary last l.1 (omega arith))
+    (λ l here. chosen_not_before last (is_text l.0 certificate_line) (first_of one_band ordinary l.1) (if is_text l.0 second_line then second_of l.1 else fault 1 Shape)
+    (first_later one_band one_band_laws ordinary last l.1 (omega arith))
     (guard_not_before last 1 (is_text l.0 second_line) (second_of l.1) (omega arith) (second_later last l.1 (omega arith))))
 
 certificate_first : NamesFirstBad certificate_of
@@ -181,6 +197,8 @@ first_bad = record {
   timing = timing_first;
   certificate = certificate_first;
   no_timing = λ start rest other b t e early held text. never t b (timing_of (start ++ other)) (ap timing_of (sym text) ∙ timing_again t held) (timing_first.here start rest other b e early);
-  no_certificate = λ start rest other b c e early held text. never c b (certificate_of (start ++ other)) (ap certificate_of (sym text) ∙ certificate_again c held) (certificate_first.here start rest other b e early);
-  no_second = λ start rest other b c e early held text. never c b (certificate_of (start ++ other)) (ap certificate_of (sym text) ∙ second_text_again c held) (certificate_first.here start rest other b e early);
+  no_certificate = λ start rest other b c e early held text. never c b (certificate_of (start ++ other)) (ap certificate_of (sym text) ∙ certificate_again c held)
+      (certificate_first.here start rest other b e early);
+  no_second = λ start rest other b c e early held text. never c b (certificate_of (start ++ other)) (ap certificate_of (sym text) ∙ second_text_again c held)
+      (certificate_first.here start rest other b e early);
 }

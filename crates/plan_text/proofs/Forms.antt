@@ -68,7 +68,8 @@ form_long d ws e h = long (any_wide (denominator_of ws) ws) refl
     long true f = form_from ws (is_wide (denominator_of ws)) true refl f ∙ or_true (is_wide (denominator_of ws)) Plain (Over (denominator_of ws))
     long false f = absurd (h (subst (λ n. All (IsWhole n) ws) (sym e) (whole_below (denominator_of ws) ws f)))
 
-over_from : (d : ℕ) (ws : List Weight) (x y : Bool) → is_wide (denominator_of ws) ≡ x → any_wide (denominator_of ws) ws ≡ y → (if x || y then Plain else Over (denominator_of ws)) ≡ Over d → IsOver d ws
+over_from : (d : ℕ) (ws : List Weight) (x y : Bool) → is_wide (denominator_of ws) ≡ x → any_wide (denominator_of ws) ws ≡ y
+    → (if x || y then Plain else Over (denominator_of ws)) ≡ Over d → IsOver d ws
 over_from d ws true y e f g = cc
 over_from d ws false true e f g = cc
 over_from d ws false false e f g =
@@ -80,7 +81,8 @@ over_from d ws false false e f g =
     apart p q = cc
 
 pub over_says : (d : ℕ) (ws : List Weight) → form_of ws ≡ Over d → IsOver d ws
-over_says d ws e = over_from d ws (is_wide (denominator_of ws)) (any_wide (denominator_of ws) ws) refl refl (sym (form_from ws (is_wide (denominator_of ws)) (any_wide (denominator_of ws) ws) refl refl) ∙ e)
+over_says d ws e = over_from d ws (is_wide (denominator_of ws)) (any_wide (denominator_of ws) ws) refl refl
+    (sym (form_from ws (is_wide (denominator_of ws)) (any_wide (denominator_of ws) ws) refl refl) ∙ e)
 
 -- so the multipliers can be written in the form of their leaf
 pub writable : (ws : List Weight) (form : LeafForm) → form ≡ form_of ws → All (IsWritable form) ws

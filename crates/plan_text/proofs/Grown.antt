@@ -35,17 +35,20 @@ abbrev pub Grows : {X : Type 0} → Part X → ℕ → List ℕ → Result X Bad
 Grows p last z (Ok v) s = (p.next v + lines_in (p.rest v) ≡ last) × (s ≡ Ok (p.more z v))
 Grows p last z (Err b) s = (IsThere b.kind × (b.line < last) × (s ≡ Err b)) ⊎ ((b ≡ record { line = last; kind = Ended }) × Reaches p last s)
 
-pub reaches_then : {X Y : Type 0} (p : Part X) (q : Part Y) (last : ℕ) (r : Result X BadText) (f : X → Result Y BadText) → Reaches p last r → ((v : X) → last < p.next v → Reaches q last (f v)) → Reaches q last (r >>= f)
+pub reaches_then : {X Y : Type 0} (p : Part X) (q : Part Y) (last : ℕ) (r : Result X BadText) (f : X → Result Y BadText) → Reaches p last r
+    → ((v : X) → last < p.next v → Reaches q last (f v)) → Reaches q last (r >>= f)
 reaches_then p q last (Ok v) f here next = next v here
 reaches_then p q last (Err b) f here next = here
 
-pub grows_by : {X Y : Type 0} (p : Part X) (q : Part Y) (last : ℕ) (z : List ℕ) (r s : Result X BadText) (f g : X → Result Y BadText) → Grows p last z r s → ((v : X) → r ≡ Ok v → p.next v + lines_in (p.rest v) ≡ last → Grows q last z (f v) (g (p.more z v))) → ((v : X) → last < p.next v → Reaches q last (g v))
+pub grows_by : {X Y : Type 0} (p : Part X) (q : Part Y) (last : ℕ) (z : List ℕ) (r s : Result X BadText) (f g : X → Result Y BadText) → Grows p last z r s
+    → ((v : X) → r ≡ Ok v → p.next v + lines_in (p.rest v) ≡ last → Grows q last z (f v) (g (p.more z v))) → ((v : X) → last < p.next v → Reaches q last (g v))
     → Grows q last z (r >>= f) (s >>= g)
 grows_by p q last z (Ok v) s f g h same next = subst (λ (y : Result _ BadText). Grows q last z (f v) (y >>= g)) (sym h.1) (same v refl h.0)
 grows_by p q last z (Err b) s f g (inl h) same next = inl (h.0, h.1, ap (λ (y : Result _ BadText). y >>= g) h.2)
 grows_by p q last z (Err b) s f g (inr h) same next = inr (h.0, reaches_then p q last s g h.1 next)
 
-pub grows_then : {X Y : Type 0} (p : Part X) (q : Part Y) (last : ℕ) (z : List ℕ) (r s : Result X BadText) (f : X → Result Y BadText) → Grows p last z r s → ((v : X) → p.next v + lines_in (p.rest v) ≡ last → Grows q last z (f v) (f (p.more z v))) → ((v : X) → last < p.next v → Reaches q last (f v))
+pub grows_then : {X Y : Type 0} (p : Part X) (q : Part Y) (last : ℕ) (z : List ℕ) (r s : Result X BadText) (f : X → Result Y BadText) → Grows p last z r s
+    → ((v : X) → p.next v + lines_in (p.rest v) ≡ last → Grows q last z (f v) (f (p.more z v))) → ((v : X) → last < p.next v → Reaches q last (f v))
     → Grows q last z (r >>= f) (s >>= f)
 grows_then p q last z r s f h same next = grows_by p q last z r s f f h (λ v is end. same v end) next
 
@@ -68,15 +71,18 @@ pub at_choice : {A : Type 0} (line : ℕ) (c : Bool) (r s : Result A BadText) �
 at_choice line true r s first second = first
 at_choice line false r s first second = second
 
-pub tested : {A Y : Type 0} (q : Part Y) (last line : ℕ) (z : List ℕ) (r : Result A BadText) (f g : A → Result Y BadText) → IsAt line r → line < last → ((x : A) → Grows q last z (f x) (g x)) → Grows q last z (r >>= f) (r >>= g)
+pub tested : {A Y : Type 0} (q : Part Y) (last line : ℕ) (z : List ℕ) (r : Result A BadText) (f g : A → Result Y BadText) → IsAt line r → line < last
+    → ((x : A) → Grows q last z (f x) (g x)) → Grows q last z (r >>= f) (r >>= g)
 tested q last line z (Ok x) f g here before next = next x
 tested q last line z (Err b) f g here before next = inl (here.1, subst (λ (n : ℕ). n < last) (sym here.0) before, refl)
 
-pub tested_later : {A Y : Type 0} (q : Part Y) (last line : ℕ) (r : Result A BadText) (f : A → Result Y BadText) → IsAt line r → last ≤ line → ((x : A) → Reaches q last (f x)) → Reaches q last (r >>= f)
+pub tested_later : {A Y : Type 0} (q : Part Y) (last line : ℕ) (r : Result A BadText) (f : A → Result Y BadText) → IsAt line r → last ≤ line
+    → ((x : A) → Reaches q last (f x)) → Reaches q last (r >>= f)
 tested_later q last line (Ok x) f here after next = next x
 tested_later q last line (Err b) f here after next = subst (λ (n : ℕ). last ≤ n) (sym here.0) after
 
-pub guarded : {Y : Type 0} (q : Part Y) (last line : ℕ) (z : List ℕ) (c : Bool) (kind : TextFault) (r s : Result Y BadText) → IsThere kind → line < last → Grows q last z r s → Grows q last z (if c then r else fault line kind) (if c then s else fault line kind)
+pub guarded : {Y : Type 0} (q : Part Y) (last line : ℕ) (z : List ℕ) (c : Bool) (kind : TextFault) (r s : Result Y BadText) → IsThere kind → line < last
+    → Grows q last z r s → Grows q last z (if c then r else fault line kind) (if c then s else fault line kind)
 guarded q last line z true kind r s is before next = next
 guarded q last line z false kind r s is before next = inl (is, before, refl)
 
@@ -84,7 +90,8 @@ pub guarded_later : {Y : Type 0} (q : Part Y) (last line : ℕ) (c : Bool) (kind
 guarded_later q last line true kind r after next = next
 guarded_later q last line false kind r after next = after
 
-pub chosen : {Y : Type 0} (q : Part Y) (last : ℕ) (z : List ℕ) (c : Bool) (r s t u : Result Y BadText) → Grows q last z r s → Grows q last z t u → Grows q last z (if c then r else t) (if c then s else u)
+pub chosen : {Y : Type 0} (q : Part Y) (last : ℕ) (z : List ℕ) (c : Bool) (r s t u : Result Y BadText) → Grows q last z r s → Grows q last z t u
+    → Grows q last z (if c then r else t) (if c then s else u)
 chosen q last z true r s t u first second = first
 chosen q last z false r s t u first second = second
 
@@ -113,7 +120,8 @@ abbrev CutOf : List ℕ → List ℕ → Option (List ℕ × List ℕ) → Type 
 CutOf bytes z None = lines_in bytes ≡ 0
 CutOf bytes z (Some p) = (cut 10 (bytes ++ z) ≡ Some (p.0, p.1 ++ z)) × (lines_in bytes ≡ suc (lines_in p.1))
 
-cut_by : (x : ℕ) (xs z : List ℕ) (c : Bool) (o : Option (List ℕ × List ℕ)) → (x == 10) ≡ c → CutOf xs z o → CutOf (x ∷ xs) z (if◌then◌else◌ {A = Option (List ℕ × List ℕ)} c (Some ([], xs)) (option_map (λ (p : List ℕ × List ℕ). (x ∷ p.0, p.1)) o))
+cut_by : (x : ℕ) (xs z : List ℕ) (c : Bool) (o : Option (List ℕ × List ℕ)) → (x == 10) ≡ c → CutOf xs z o
+    → CutOf (x ∷ xs) z (if◌then◌else◌ {A = Option (List ℕ × List ℕ)} c (Some ([], xs)) (option_map (λ (p : List ℕ × List ℕ). (x ∷ p.0, p.1)) o))
 cut_by x xs z true o is h = (rw is refl, rw is refl)
 cut_by x xs z false None is h = rw is h
 cut_by x xs z false (Some p) is h = (rw (is, h.0) refl, rw is h.1)
@@ -126,7 +134,8 @@ line_or_later : (last line : ℕ) (o : Option (List ℕ × List ℕ)) → last �
 line_or_later last line None after = after
 line_or_later last line (Some p) after = omega arith
 
-line_by : (last line : ℕ) (bytes z : List ℕ) (o : Option (List ℕ × List ℕ)) → line + lines_in bytes ≡ last → CutOf bytes z o → Grows (one_and (line + 1)) last z (line_or line o) (line_or line (cut 10 (bytes ++ z)))
+line_by : (last line : ℕ) (bytes z : List ℕ) (o : Option (List ℕ × List ℕ)) → line + lines_in bytes ≡ last → CutOf bytes z o
+    → Grows (one_and (line + 1)) last z (line_or line o) (line_or line (cut 10 (bytes ++ z)))
 line_by last line bytes z None e h =
     let is : line ≡ last = omega arith in
     inr (ap (λ (n : ℕ). record { line = n; kind = Ended }) is, line_or_later last line (cut 10 (bytes ++ z)) (omega arith))
@@ -143,7 +152,8 @@ line_later last line bytes after = line_or_later last line (cut 10 bytes) after
 pub words_grow : (last line : ℕ) (bytes z : List ℕ) → line + lines_in bytes ≡ last → Grows (one_and (line + 1)) last z (words_at line bytes) (words_at line (bytes ++ z))
 unfolding words_at
 words_grow last line bytes z e =
-    grows_then (one_and (line + 1)) (one_and (line + 1)) last z (line_at line bytes) (line_at line (bytes ++ z)) (λ l. Ok (words l.0, l.1)) (line_grows last line bytes z e) (λ l end. (end, refl)) (λ l here. here)
+    grows_then (one_and (line + 1)) (one_and (line + 1)) last z (line_at line bytes) (line_at line (bytes ++ z)) (λ l. Ok (words l.0, l.1))
+    (line_grows last line bytes z e) (λ l end. (end, refl)) (λ l here. here)
 
 pub words_later : (last line : ℕ) (bytes : List ℕ) → last ≤ line → Reaches (one_and (line + 1)) last (words_at line bytes)
 unfolding words_at
@@ -152,7 +162,8 @@ words_later last line bytes after = reaches_then (one_and (line + 1)) (one_and (
 pub fixed_grows : (last line : ℕ) (text bytes z : List ℕ) → line + lines_in bytes ≡ last → Grows (after_line (line + 1)) last z (fixed_at line text bytes) (fixed_at line text (bytes ++ z))
 unfolding fixed_at
 fixed_grows last line text bytes z e =
-    grows_then (one_and (line + 1)) (after_line (line + 1)) last z (line_at line bytes) (line_at line (bytes ++ z)) (λ l. if is_text l.0 text then Ok l.1 else fault line Shape) (line_grows last line bytes z e)
+    grows_then (one_and (line + 1)) (after_line (line + 1)) last z (line_at line bytes) (line_at line (bytes ++ z)) (λ l. if is_text l.0 text then Ok l.1 else fault line Shape)
+    (line_grows last line bytes z e)
     (λ l end. guarded (after_line (line + 1)) last line z (is_text l.0 text) Shape (Ok l.1) (Ok (l.1 ++ z)) tt (omega arith) (end, refl))
     (λ l here. guarded_later (after_line (line + 1)) last line (is_text l.0 text) Shape (Ok l.1) (omega arith) here)
 
@@ -179,15 +190,19 @@ of_here : (key : List ℕ) (place : NumberLine) (ws : List (List ℕ)) → IsAt 
 unfolding numbers_of
 of_here key place ws = at_if place.line (has_shape key place ws) Shape (numbers_in place (after_key ws)) tt (in_here place (after_key ws))
 
-pub numbers_grow : (last : ℕ) (key : List ℕ) (place : NumberLine) (bytes z : List ℕ) → place.line + lines_in bytes ≡ last → Grows (one_and (place.line + 1)) last z (numbers_at key place bytes) (numbers_at key place (bytes ++ z))
+pub numbers_grow : (last : ℕ) (key : List ℕ) (place : NumberLine) (bytes z : List ℕ) → place.line + lines_in bytes ≡ last
+    → Grows (one_and (place.line + 1)) last z (numbers_at key place bytes) (numbers_at key place (bytes ++ z))
 unfolding numbers_at
 numbers_grow last key place bytes z e =
-    grows_then (one_and (place.line + 1)) (one_and (place.line + 1)) last z (line_at place.line bytes) (line_at place.line (bytes ++ z)) (λ l. numbers_of key place (words l.0) >>= λ ns. Ok (ns, l.1)) (line_grows last place.line bytes z e)
-    (λ l end. tested (one_and (place.line + 1)) last place.line z (numbers_of key place (words l.0)) (λ ns. Ok (ns, l.1)) (λ ns. Ok (ns, l.1 ++ z)) (of_here key place (words l.0)) (omega arith) (λ ns. (end, refl)))
+    grows_then (one_and (place.line + 1)) (one_and (place.line + 1)) last z (line_at place.line bytes) (line_at place.line (bytes ++ z))
+    (λ l. numbers_of key place (words l.0) >>= λ ns. Ok (ns, l.1)) (line_grows last place.line bytes z e)
+    (λ l end. tested (one_and (place.line + 1)) last place.line z (numbers_of key place (words l.0)) (λ ns. Ok (ns, l.1)) (λ ns. Ok (ns, l.1 ++ z))
+    (of_here key place (words l.0)) (omega arith) (λ ns. (end, refl)))
     (λ l here. tested_later (one_and (place.line + 1)) last place.line (numbers_of key place (words l.0)) (λ ns. Ok (ns, l.1)) (of_here key place (words l.0)) (omega arith) (λ ns. here))
 
 pub numbers_later : (last : ℕ) (key : List ℕ) (place : NumberLine) (bytes : List ℕ) → last ≤ place.line → Reaches (one_and (place.line + 1)) last (numbers_at key place bytes)
 unfolding numbers_at
 numbers_later last key place bytes after =
-    reaches_then (one_and (place.line + 1)) (one_and (place.line + 1)) last (line_at place.line bytes) (λ l. numbers_of key place (words l.0) >>= λ ns. Ok (ns, l.1)) (line_later last place.line bytes after)
+    reaches_then (one_and (place.line + 1)) (one_and (place.line + 1)) last (line_at place.line bytes) (λ l. numbers_of key place (words l.0) >>= λ ns. Ok (ns, l.1))
+    (line_later last place.line bytes after)
     (λ l here. tested_later (one_and (place.line + 1)) last place.line (numbers_of key place (words l.0)) (λ ns. Ok (ns, l.1)) (of_here key place (words l.0)) after (λ ns. here))

@@ -42,7 +42,8 @@ reads_made p line m q read make reads next rest more = record {
 }
 
 -- one reader after another, which sees of the part before both only what more bytes leave as it is
-pub reads_then : {X Y Z : Type 0} (p : Part X) (line : ℕ) (m : Part Y) (next : ℕ) (q : Part Z) (first : X → Result Y BadText) (second : X → Y → Result Z BadText) → ReadsOn p line m first → ((x : X) → ReadsOn m next q (second x))
+pub reads_then : {X Y Z : Type 0} (p : Part X) (line : ℕ) (m : Part Y) (next : ℕ) (q : Part Z) (first : X → Result Y BadText) (second : X → Y → Result Z BadText)
+    → ReadsOn p line m first → ((x : X) → ReadsOn m next q (second x))
     → ((y : Y) → m.next y ≡ next) → ((x : X) (z : List ℕ) → second x ≡ second (p.more z x)) → ReadsOn p line q (λ x. first x >>= second x)
 reads_then p line m next q first second one two there same = record {
   grows = λ last x z e. grows_by m q last z (first x) (first (p.more z x)) (second x) (second (p.more z x)) (one.grows last x z e)
@@ -57,7 +58,8 @@ numbers_read : (key : List ℕ) (place : NumberLine) → Reads place.line (one_a
 numbers_read key place = record { grows = λ last bytes z e. numbers_grow last key place bytes z e; later = λ last bytes here. numbers_later last key place bytes here }
 
 -- two such lines, with something of the numbers of each
-two_read : {A B : Type 0} (f : List ℕ → A) (g : List ℕ → B) (line : ℕ) (one : List ℕ → Result (List ℕ × List ℕ) BadText) (two : List ℕ → List ℕ → Result (List ℕ × List ℕ) BadText) → Reads line (one_and (line + 1)) one
+two_read : {A B : Type 0} (f : List ℕ → A) (g : List ℕ → B) (line : ℕ) (one : List ℕ → Result (List ℕ × List ℕ) BadText) (two : List ℕ → List ℕ → Result (List ℕ × List ℕ) BadText)
+    → Reads line (one_and (line + 1)) one
     → ((a : List ℕ) → Reads (line + 1) (one_and (line + 1 + 1)) (two a)) → Reads line (two_and (line + 2)) (λ bytes. one bytes >>= λ a. two a.0 a.1 >>= λ b. Ok (f a.0, g b.0, b.1))
 two_read f g line one two first second =
     reads_then (after_line line) line (one_and (line + 1)) (line + 1) (two_and (line + 2)) one (λ bytes a. two a.0 a.1 >>= λ b. Ok (f a.0, g b.0, b.1)) first
@@ -67,21 +69,25 @@ two_read f g line one two first second =
 
 scale_read : (line : ℕ) → Reads line (two_and (line + 2)) (scale_at line)
 unfolding scale_at
-scale_read line = two_read (λ a. slice_index a 0) (λ b. slice_index b 0) line (numbers_at grid_key (place_of line 1 1)) (λ a. numbers_at unit_key (place_of (line + 1) 1 2)) (numbers_read grid_key (place_of line 1 1)) (λ a. numbers_read unit_key (place_of (line + 1) 1 2))
+scale_read line = two_read (λ a. slice_index a 0) (λ b. slice_index b 0) line (numbers_at grid_key (place_of line 1 1)) (λ a. numbers_at unit_key (place_of (line + 1) 1 2))
+    (numbers_read grid_key (place_of line 1 1)) (λ a. numbers_read unit_key (place_of (line + 1) 1 2))
 
 signals_read : (line : ℕ) → Reads line (two_and (line + 2)) (signals_at line)
 unfolding signals_at
 signals_read line =
-    two_read (λ a. a) (λ b. b) line (numbers_at pattern_key (pattern_place line)) (λ a. numbers_at red_key (place_of (line + 1) (length a) 0)) (numbers_read pattern_key (pattern_place line)) (λ a. numbers_read red_key (place_of (line + 1) (length a) 0))
+    two_read (λ a. a) (λ b. b) line (numbers_at pattern_key (pattern_place line)) (λ a. numbers_at red_key (place_of (line + 1) (length a) 0))
+    (numbers_read pattern_key (pattern_place line)) (λ a. numbers_read red_key (place_of (line + 1) (length a) 0))
 
 pub ways_read : (out_key in_key : List ℕ) (line links : ℕ) → Reads line (two_and (line + 2)) (both_ways_at out_key in_key line links)
 unfolding both_ways_at
-ways_read out_key in_key line links = two_read (λ a. a) (λ b. b) line (numbers_at out_key (place_of line links 0)) (λ a. numbers_at in_key (place_of (line + 1) links 0)) (numbers_read out_key (place_of line links 0)) (λ a. numbers_read in_key (place_of (line + 1) links 0))
+ways_read out_key in_key line links = two_read (λ a. a) (λ b. b) line (numbers_at out_key (place_of line links 0)) (λ a. numbers_at in_key (place_of (line + 1) links 0))
+    (numbers_read out_key (place_of line links 0)) (λ a. numbers_read in_key (place_of (line + 1) links 0))
 
 pair_read : (key : List ℕ) (line : ℕ) → Reads line (two_and (line + 1)) (pair_at key line)
 unfolding pair_at
 pair_read key line =
-    reads_made (after_line line) line (one_and (line + 1)) (two_and (line + 1)) (numbers_at key (place_of line 2 0)) (λ bytes a. (slice_index a.0 0, slice_index a.0 1, a.1)) (numbers_read key (place_of line 2 0)) (λ x y. refl) (λ x y. refl) (λ x y z. refl)
+    reads_made (after_line line) line (one_and (line + 1)) (two_and (line + 1)) (numbers_at key (place_of line 2 0)) (λ bytes a. (slice_index a.0 0, slice_index a.0 1, a.1))
+    (numbers_read key (place_of line 2 0)) (λ x y. refl) (λ x y. refl) (λ x y z. refl)
 
 -- ---- the lines that speak of no band
 
@@ -106,22 +112,26 @@ from_signals line scale = signals_at (line + 2) scale.2 >>= from_runs line scale
 first_read : (line : ℕ) (scale : Scale) (signals : Pair) → ReadsOn (two_and (line + 4 + 2)) (line + 6) (one_and (line + 7)) (from_first line scale signals)
 first_read line scale signals =
     reads_made (two_and (line + 4 + 2)) (line + 6) (two_and (line + 6 + 1)) (one_and (line + 7)) (λ runs. pair_at first_key (line + 6) runs.2) (base_is scale signals)
-    (reads_rest (two_and (line + 4 + 2)) (line + 6) (two_and (line + 6 + 1)) (λ runs. pair_at first_key (line + 6)) (λ runs. pair_read first_key (line + 6)) (λ runs z. refl)) (λ runs f. omega arith) (λ runs f. refl) (λ runs f z. refl)
+    (reads_rest (two_and (line + 4 + 2)) (line + 6) (two_and (line + 6 + 1)) (λ runs. pair_at first_key (line + 6)) (λ runs. pair_read first_key (line + 6)) (λ runs z. refl))
+    (λ runs f. omega arith) (λ runs f. refl) (λ runs f z. refl)
 
 runs_read : (line : ℕ) (scale : Scale) → ReadsOn (two_and (line + 2 + 2)) (line + 4) (one_and (line + 7)) (from_runs line scale)
 runs_read line scale =
     let ways : Pair → List ℕ → Result Pair BadText = λ signals. both_ways_at run_out_key run_in_key (line + 4) (length signals.0 - 1) in
     let read = reads_rest (two_and (line + 2 + 2)) (line + 4) (two_and (line + 4 + 2)) ways (λ signals. ways_read run_out_key run_in_key (line + 4) (length signals.0 - 1)) (λ signals z. refl) in
-    reads_then (two_and (line + 2 + 2)) (line + 4) (two_and (line + 4 + 2)) (line + 6) (one_and (line + 7)) (λ signals. ways signals signals.2) (from_first line scale) read (first_read line scale) (λ runs. omega arith) (λ signals z. refl)
+    reads_then (two_and (line + 2 + 2)) (line + 4) (two_and (line + 4 + 2)) (line + 6) (one_and (line + 7)) (λ signals. ways signals signals.2)
+    (from_first line scale) read (first_read line scale) (λ runs. omega arith) (λ signals z. refl)
 
 later_read : (line : ℕ) → ReadsOn (two_and (line + 2)) (line + 2) (one_and (line + 7)) (from_signals line)
 later_read line =
     reads_then (two_and (line + 2)) (line + 2) (two_and (line + 2 + 2)) (line + 4) (one_and (line + 7)) (λ scale. signals_at (line + 2) scale.2) (from_runs line)
-    (reads_rest (two_and (line + 2)) (line + 2) (two_and (line + 2 + 2)) (λ scale. signals_at (line + 2)) (λ scale. signals_read (line + 2)) (λ scale z. refl)) (runs_read line) (λ signals. omega arith) (λ scale z. refl)
+    (reads_rest (two_and (line + 2)) (line + 2) (two_and (line + 2 + 2)) (λ scale. signals_at (line + 2)) (λ scale. signals_read (line + 2)) (λ scale z. refl))
+    (runs_read line) (λ signals. omega arith) (λ scale z. refl)
 
 pub base_read : (line : ℕ) → Reads line (one_and (line + 7)) (base_at line)
 unfolding base_at
-base_read line = reads_then (after_line line) line (two_and (line + 2)) (line + 2) (one_and (line + 7)) (scale_at line) (λ bytes. from_signals line) (scale_read line) (λ bytes. later_read line) (λ scale. refl) (λ bytes z. refl)
+base_read line = reads_then (after_line line) line (two_and (line + 2)) (line + 2) (one_and (line + 7)) (scale_at line) (λ bytes. from_signals line)
+    (scale_read line) (λ bytes. later_read line) (λ scale. refl) (λ bytes z. refl)
 
 -- ---- the eight lines
 
@@ -131,8 +141,10 @@ band_then line base = pair_at band_key (line + 7) base.1 >>= λ band. Ok (base.0
 band_read : (line : ℕ) → ReadsOn (one_and (line + 7)) (line + 7) (one_and (line + 8)) (band_then line)
 band_read line =
     reads_made (one_and (line + 7)) (line + 7) (two_and (line + 7 + 1)) (one_and (line + 8)) (λ base. pair_at band_key (line + 7) base.1) (λ base band. (base.0 band.0 band.1, band.2))
-    (reads_rest (one_and (line + 7)) (line + 7) (two_and (line + 7 + 1)) (λ base. pair_at band_key (line + 7)) (λ base. pair_read band_key (line + 7)) (λ base z. refl)) (λ base band. omega arith) (λ base band. refl) (λ base band z. refl)
+    (reads_rest (one_and (line + 7)) (line + 7) (two_and (line + 7 + 1)) (λ base. pair_at band_key (line + 7)) (λ base. pair_read band_key (line + 7)) (λ base z. refl))
+    (λ base band. omega arith) (λ base band. refl) (λ base band z. refl)
 
 pub plan_read : (line : ℕ) → Reads line (one_and (line + 8)) (plan_at line)
 unfolding plan_at
-plan_read line = reads_then (after_line line) line (one_and (line + 7)) (line + 7) (one_and (line + 8)) (base_at line) (λ bytes. band_then line) (base_read line) (λ bytes. band_read line) (λ base. refl) (λ bytes z. refl)
+plan_read line = reads_then (after_line line) line (one_and (line + 7)) (line + 7) (one_and (line + 8)) (base_at line) (λ bytes. band_then line)
+    (base_read line) (λ bytes. band_read line) (λ base. refl) (λ bytes z. refl)

@@ -15,6 +15,7 @@ pub mod FamilyNames
 pub mod RowLoop
 pub mod WordLines
 pub mod WeightLines
+pub mod LeafLines
 pub mod NodeLines
 pub mod NodeLoop
 pub mod Claims

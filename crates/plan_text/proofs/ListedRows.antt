@@ -29,7 +29,8 @@ inserted row (r ∷ rs) =
     ∙ ap (λ (y : List RowId). if is_below row r then row ∷ r ∷ rs else (if is_below r row then r ∷ y else r ∷ rs)) (inserted row rs)
 
 -- one more row of a leaf
-pub rows_more : (ws : List Weight) (i : ℕ) (d w : Weight) (rs after : List RowId) → i < length ws → w ≡ get_or ws i d → after ≡ insert_key row_cmp rs w.row → with_rows (drop i ws) rs ≡ with_rows (drop (i + 1) ws) after
+pub rows_more : (ws : List Weight) (i : ℕ) (d w : Weight) (rs after : List RowId) → i < length ws → w ≡ get_or ws i d → after ≡ insert_key row_cmp rs w.row
+    → with_rows (drop i ws) rs ≡ with_rows (drop (i + 1) ws) after
 unfolding with_rows
 rows_more ws i d w rs after lt is e =
     rw (add-one, drop-cons ws i d) (ap (with_rows (drop (suc i) ws)) (ap (λ (v : Weight). with_row v.row rs) (sym is) ∙ sym (inserted w.row rs) ∙ sym e))
@@ -39,11 +40,13 @@ unfolding with_rows
 rows_passed ws i rs le = ap (λ (vs : List Weight). with_rows vs rs) (drop_all i ws le)
 
 -- one more node
-pub split_next : (ns : List CertNode) (i : ℕ) (d n : CertNode) (at : At) (rs : List RowId) → i < length ns → n ≡ get_or ns i d → n ≡ code.Split at → rows_from rs (map node_of (drop i ns)) ≡ rows_from rs (map node_of (drop (i + 1) ns))
+pub split_next : (ns : List CertNode) (i : ℕ) (d n : CertNode) (at : At) (rs : List RowId) → i < length ns → n ≡ get_or ns i d → n ≡ code.Split at
+    → rows_from rs (map node_of (drop i ns)) ≡ rows_from rs (map node_of (drop (i + 1) ns))
 unfolding rows_from
 split_next ns i d n at rs lt is e = rw (add-one, drop-cons ns i d) (ap (λ (m : CertNode). rows_from rs (node_of m ∷ map node_of (drop (suc i) ns))) (sym is ∙ e))
 
-pub leaf_next : (ns : List CertNode) (i : ℕ) (d n : CertNode) (leaf : Leaf) (rs after : List RowId) → i < length ns → n ≡ get_or ns i d → n ≡ code.Leaf leaf → after ≡ with_rows leaf.multipliers.items rs → rows_from rs (map node_of (drop i ns)) ≡ rows_from after (map node_of (drop (i + 1) ns))
+pub leaf_next : (ns : List CertNode) (i : ℕ) (d n : CertNode) (leaf : Leaf) (rs after : List RowId) → i < length ns → n ≡ get_or ns i d → n ≡ code.Leaf leaf
+    → after ≡ with_rows leaf.multipliers.items rs → rows_from rs (map node_of (drop i ns)) ≡ rows_from after (map node_of (drop (i + 1) ns))
 unfolding rows_from
 leaf_next ns i d n leaf rs after lt is e f =
     rw (add-one, drop-cons ns i d)
@@ -153,7 +156,8 @@ with_rows_keep (w ∷ ws) rs s h = with_rows_keep ws (with_row w.row rs) s (with
 with_rows_have : (ws : List Weight) (rs : List RowId) → All (λ (w : Weight). IsListed (with_rows ws rs) w.row) ws
 unfolding with_rows
 with_rows_have [] rs = All-nil (λ (w : Weight). IsListed (with_rows [] rs) w.row)
-with_rows_have (w ∷ ws) rs = All-cons (λ (v : Weight). IsListed (with_rows (w ∷ ws) rs) v.row) w ws (with_rows_keep ws (with_row w.row rs) w.row (with_row_has w.row rs)) (with_rows_have ws (with_row w.row rs))
+with_rows_have (w ∷ ws) rs = All-cons (λ (v : Weight). IsListed (with_rows (w ∷ ws) rs) v.row) w ws (with_rows_keep ws (with_row w.row rs) w.row (with_row_has w.row rs))
+    (with_rows_have ws (with_row w.row rs))
 
 rows_from_keep : (rs : List RowId) (ns : List Node) (s : RowId) → IsListed rs s → IsListed (rows_from rs ns) s
 unfolding rows_from
@@ -172,7 +176,8 @@ all_from rs [] = All-nil (AreListed (rows_from rs []))
 all_from rs (SplitAt at ∷ ns) = All-cons (AreListed (rows_from rs (SplitAt at ∷ ns))) (SplitAt at) ns tt (all_from rs ns)
 all_from rs (LeafOf ws ∷ ns) =
     All-cons (AreListed (rows_from rs (LeafOf ws ∷ ns))) (LeafOf ws) ns
-    (All-weaker (λ (w : Weight). IsListed (with_rows ws rs) w.row) (λ (w : Weight). IsListed (rows_from (with_rows ws rs) ns) w.row) (λ w h. rows_from_keep (with_rows ws rs) ns w.row h) ws (with_rows_have ws rs))
+    (All-weaker (λ (w : Weight). IsListed (with_rows ws rs) w.row) (λ (w : Weight). IsListed (rows_from (with_rows ws rs) ns) w.row)
+    (λ w h. rows_from_keep (with_rows ws rs) ns w.row h) ws (with_rows_have ws rs))
     (all_from (with_rows ws rs) ns)
 
 -- every row of a leaf is listed

@@ -24,7 +24,8 @@ regroup front n (Err e) = refl
 abbrev pub bytes_of : List (Bor (List ℕ)) → List (List ℕ)
 bytes_of words = map (λ w. w.now) words
 
-pub goes_on : (front : List ℕ) (place : NumberLine) (i : ℕ) (words : List (Bor (List ℕ))) (d : Bor (List ℕ)) (n : ℕ) (total : Result (List ℕ) BadText) → i < length words → ranged place (number (get_or words i d).now) ≡ Ok n
+pub goes_on : (front : List ℕ) (place : NumberLine) (i : ℕ) (words : List (Bor (List ℕ))) (d : Bor (List ℕ)) (n : ℕ) (total : Result (List ℕ) BadText)
+    → i < length words → ranged place (number (get_or words i d).now) ≡ Ok n
     → with_front front (numbers_in place (bytes_of (drop i words))) ≡ total → with_front (front ++ n ∷ []) (numbers_in place (bytes_of (drop (i + 1) words))) ≡ total
 unfolding numbers_in
 goes_on front place i words d n total lt h so_far =
@@ -33,7 +34,8 @@ goes_on front place i words d n total lt h so_far =
     = rw (next, h) (regroup front n (numbers_in place (bytes_of (drop (i + 1) words)))) in
     sym one ∙ so_far
 
-pub stops : (e : TextEnd) (front : List ℕ) (place : NumberLine) (i : ℕ) (words : List (Bor (List ℕ))) (d : Bor (List ℕ)) (total : Result (List ℕ) BadText) → i < length words → Fails e (ranged place (number (get_or words i d).now))
+pub stops : (e : TextEnd) (front : List ℕ) (place : NumberLine) (i : ℕ) (words : List (Bor (List ℕ))) (d : Bor (List ℕ)) (total : Result (List ℕ) BadText)
+    → i < length words → Fails e (ranged place (number (get_or words i d).now))
     → with_front front (numbers_in place (bytes_of (drop i words))) ≡ total → Fails e total
 unfolding numbers_in
 stops ends.Memory front place i words d total lt h so_far = tt
@@ -42,7 +44,8 @@ stops (ends.Bad b) front place i words d total lt h so_far =
     let one : with_front front (numbers_in place (bytes_of (drop i words))) ≡ Err b = rw (next, h) refl in
     sym so_far ∙ one
 
-pub is_done : (front : List ℕ) (place : NumberLine) (i : ℕ) (words : List (Bor (List ℕ))) (total : Result (List ℕ) BadText) → length words ≤ i → with_front front (numbers_in place (bytes_of (drop i words))) ≡ total → total ≡ Ok front
+pub is_done : (front : List ℕ) (place : NumberLine) (i : ℕ) (words : List (Bor (List ℕ))) (total : Result (List ℕ) BadText) → length words ≤ i
+    → with_front front (numbers_in place (bytes_of (drop i words))) ≡ total → total ≡ Ok front
 unfolding numbers_in
 is_done front place i words total le so_far =
     let one : with_front front (numbers_in place (bytes_of (drop i words))) ≡ Ok front = rw (drop_all i words le) (ap (λ (ns : List ℕ). Ok ns) (append-nil front)) in

@@ -1,5 +1,6 @@
 -- A multiplier that is read is the one that was written, and what was written is read again.
-use Rattle.std.proofs.Common.{◌≡◌, ℕ, ℤ, pos, negsuc, zero, suc, ◌+◌, ◌*◌, ◌/◌, ◌<◌, ◌≤◌, ◌^◌, Bool, true, false, List, [], ◌∷◌, ◌++◌, Option, Some, None, Ok, eqb-true, lt-ltb, refl, sym, ap, subst, ◌∙◌, unsigned_abs, append-nil, arith}
+use Rattle.std.proofs.Common.{◌≡◌, ℕ, ℤ, pos, negsuc, zero, suc, ◌+◌, ◌*◌, ◌/◌, ◌<◌, ◌≤◌, ◌^◌, Bool, true, false, List, [], ◌∷◌, ◌++◌, Option, Some}
+use Rattle.std.proofs.Common.{None, Ok, eqb-true, lt-ltb, refl, sym, ap, subst, ◌∙◌, unsigned_abs, append-nil, arith}
 use Rattle.std.specs.Prelude.{◌==◌, ◌&&◌, ◌*ℤ◌, int_lt, int_div, if◌then◌else◌}
 use Rattle.std.specs.List.{AllByRecursion}
 use Rattle.std.specs.Fmt.{decimal, signed_decimal}
@@ -74,7 +75,8 @@ over_times d x above m =
     let part : d / x.den ≡ k = quotient_is k x.den d x.positive (sym m.is) in
     let z = x.num *ℤ pos k in
     ap (λ (n : ℕ). over (x.num *ℤ pos n) d) part
-    ∙ same_ratio (over z d) x (up x.num * k) (down x.num * k) d (up x.num) (down x.num) x.den (over_terms z (up x.num * k) (down x.num * k) d above (omega (arith, ints, up-mul x.num (pos k), down-mul x.num (pos k)))) (own_ratio x)
+    ∙ same_ratio (over z d) x (up x.num * k) (down x.num * k) d (up x.num) (down x.num) x.den (over_terms z (up x.num * k) (down x.num * k) d above
+    (omega (arith, ints, up-mul x.num (pos k), down-mul x.num (pos k)))) (own_ratio x)
     (crossed (up x.num) (down x.num) k d x.den m.is)
   where
     crossed : (a b k d e : ℕ) → d ≡ k * e → a * k * e + b * d ≡ b * k * e + a * d
@@ -153,7 +155,8 @@ above_ok (Some y) d e = whole_by y.num refl (y.den == 1) (eqb-true y.den 1) e
     some_by n true f = cc
     some_by n false f = absurd cc
 
-    whole_by : (z : ℤ) → y.num ≡ z → (b : Bool) → (b ≡ true → y.den ≡ 1) → (if b && int_lt (pos 0) z then Some (unsigned_abs z) else None) ≡ Some d → (u : ℚ) × (Some y ≡ Some u) × (u.den ≡ 1) × (u.num ≡ pos d) × (1 ≤ d)
+    whole_by : (z : ℤ) → y.num ≡ z → (b : Bool) → (b ≡ true → y.den ≡ 1) → (if b && int_lt (pos 0) z then Some (unsigned_abs z) else None) ≡ Some d
+        → (u : ℚ) × (Some y ≡ Some u) × (u.den ≡ 1) × (u.num ≡ pos d) × (1 ≤ d)
     whole_by z k false is f = absurd cc
     whole_by (pos zero) k true is f = absurd cc
     whole_by (negsuc n) k true is f = absurd cc

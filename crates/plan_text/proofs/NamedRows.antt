@@ -92,14 +92,19 @@ listed_again rows line row told =
     let p = place_of_listed None rows row told.0 told.1 in
     let place = place_of_row rows row in
     let back : place - 1 ≡ p.0 = omega (arith, p.1.place) in
-    let read = number_again (range_of line 1 (2 ^ 64 - 1)) place (record { least = omega (arith, p.1.place); greatest = omega (arith, p.1.place, p.1.inside, told.2); limit = omega (arith, p.1.place, p.1.inside, told.2) }) in
+    let read = number_again (range_of line 1 (2 ^ 64 - 1)) place (record {
+      least = omega (arith, p.1.place);
+      greatest = omega (arith, p.1.place, p.1.inside, told.2);
+      limit = omega (arith, p.1.place, p.1.inside, told.2);
+    }) in
     rw (read, back, get_some rows p.0 row row p.1.inside (sym (p.1.is row))) refl
 
 row_in_again : (names : Naming) (line : ℕ) (row : RowId) → IsTold names row → row_in names line (name_words names row) ≡ Ok row
 row_in_again (Named table) line row told = row_again table line row told.0 told.1.named told.1.index
 row_in_again (Listed rows) line row told = listed_again rows line row told
 
-name_line : (names : Naming) (line : ℕ) (row : RowId) (more : List (List ℕ)) (rest : List ℕ) → IsTold names row → AreWords more → words_at line (line_of (name_words names row ++ more) ++ 10 ∷ rest) ≡ Ok (name_words names row ++ more, rest)
+name_line : (names : Naming) (line : ℕ) (row : RowId) (more : List (List ℕ)) (rest : List ℕ) → IsTold names row → AreWords more
+    → words_at line (line_of (name_words names row ++ more) ++ 10 ∷ rest) ≡ Ok (name_words names row ++ more, rest)
 name_line (Named table) line row more rest told k = row_line_again table line row more rest told.0 told.1.named told.1.index k
 name_line (Listed rows) line row more rest told k =
     let p = place_of_listed None rows row told.0 told.1 in
@@ -111,7 +116,8 @@ pub record KeptWeight (table : Table) (w : Weight) : Type 0 where
   pub row : IsRowIn table w.row
   pub by : FitsFrac w.by
 
-weight_by_takes : (names : Naming) (table : Table) (form : LeafForm) (line : ℕ) (ws : List (List ℕ)) (w : Weight) (o : Option (List (List ℕ) × List ℕ)) → IsOver names table → IsFormed form → cut_last ws ≡ o → weight_by names form line o ≡ Ok w → (ws ≡ weight_words names form w) × KeptWeight table w
+weight_by_takes : (names : Naming) (table : Table) (form : LeafForm) (line : ℕ) (ws : List (List ℕ)) (w : Weight) (o : Option (List (List ℕ) × List ℕ))
+    → IsOver names table → IsFormed form → cut_last ws ≡ o → weight_by names form line o ≡ Ok w → (ws ≡ weight_words names form w) × KeptWeight table w
 weight_by_takes names table form line ws w None is formed k e = absurd cc
 weight_by_takes names table form line ws w (Some p) is formed k e =
     let a = bind_ok (row_in names line p.0) (λ row. multiplier_of form line p.1 >>= λ by. Ok (record { row = row; by = by })) w e in
@@ -123,7 +129,8 @@ weight_by_takes names table form line ws w (Some p) is formed k e =
     moved (λ (v : Weight). (ws ≡ weight_words names form v) × KeptWeight table v) made w b.2
     (cut_last_takes ws p k ∙ (λ i. r.spelled i ++ value i ∷ []), record { row = r.kept; by = m.fits })
 
-pub weight_takes : (names : Naming) (table : Table) (form : LeafForm) → IsOver names table → IsFormed form → (line : ℕ) (ws : List (List ℕ)) (w : Weight) → weight_of names form line ws ≡ Ok w → (ws ≡ weight_words names form w) × KeptWeight table w
+pub weight_takes : (names : Naming) (table : Table) (form : LeafForm) → IsOver names table → IsFormed form → (line : ℕ) (ws : List (List ℕ)) (w : Weight)
+    → weight_of names form line ws ≡ Ok w → (ws ≡ weight_words names form w) × KeptWeight table w
 unfolding weight_of
 weight_takes names table form is formed line ws w e = weight_by_takes names table form line ws w (cut_last ws) is formed refl e
 

@@ -1,5 +1,6 @@
 -- A node that is read is the node that was written, and what was written is read again.
-use Rattle.std.proofs.Common.{◌≡◌, ℕ, zero, suc, ◌+◌, ◌-◌, ◌<◌, ◌≤◌, ◌^◌, Bool, true, false, List, [], ◌∷◌, ◌++◌, map, length, Option, Some, None, pos, eqb-true, Result, Ok, Err, refl, sym, ap, subst, ◌∙◌, arith}
+use Rattle.std.proofs.Common.{◌≡◌, ℕ, zero, suc, ◌+◌, ◌-◌, ◌<◌, ◌≤◌, ◌^◌, Bool, true, false, List, [], ◌∷◌, ◌++◌, map, length, Option, Some, None}
+use Rattle.std.proofs.Common.{pos, eqb-true, Result, Ok, Err, refl, sym, ap, subst, ◌∙◌, arith}
 use Rattle.std.specs.Prelude.{if◌then◌else◌, flat_map}
 use Rattle.std.proofs.lemmas.Bool.{eq-eqb}
 use Rattle.std.specs.Fmt.{decimal, signed_decimal}
@@ -25,7 +26,8 @@ use Rattle.certificate_model.proofs.KeptNodes.{IsNode}
 use Rattle.plan_text.specs.CertificateText.{split_key, loop_key, turn_key, leaf_key, split_words, IsHeldWeight, IsHeldNode}
 use Rattle.plan_text.specs.Leaves.{form_of}
 use Rattle.plan_text.specs.Namings.{Naming, Named, Listed, fractions_key, IsFormed, same_form, is_form, weight_words, weight_line, first_words, leaf_lines, form_by, node_lines}
-use Rattle.plan_text.specs.CertificateReading.{row_of_weight, weight_of, above_zero, leaf_count, over_head, or_number, range_of, index_of, split_of, head_of, rest_of, node_at, weights_at, owed_after, nodes_at}
+use Rattle.plan_text.specs.CertificateReading.{row_of_weight, weight_of, above_zero, leaf_count, over_head, or_number, range_of, index_of, split_of}
+use Rattle.plan_text.specs.CertificateReading.{head_of, leaf_at, rest_of, node_at, owed_after, nodes_at}
 use Rattle.plan_text.proofs.Fields.{bind_ok, guard_ok, moved, same_text, text_same, number_takes, number_again, IsKey}
 use Rattle.plan_text.proofs.ExactWords.{integer_takes, integer_again, integer_word, decimal_word}
 use Rattle.plan_text.proofs.WordLines.{number_ok, words_take, words_shorter, words_again, ended_and, ended_more}
@@ -33,6 +35,7 @@ use Rattle.plan_text.proofs.WeightLines.{index_takes, index_again}
 use Rattle.plan_text.proofs.Multipliers.{Suits, whole_word, denominator_takes, denominator_again}
 use Rattle.plan_text.proofs.NamedRows.{IsOver, IsTold, KeptWeight, weight_takes, weight_reads}
 use Rattle.plan_text.proofs.RowLoop.{AscendBy, ReadsAs, rising_lengths, rising_takes, rising_again}
+use Rattle.plan_text.proofs.LeafLines.{leaf_takes, leaf_reads}
 
 -- ---- the first line of a node
 
@@ -42,7 +45,8 @@ pub record SplitOf (ws : List (List ℕ)) (at : At) : Type 0 where
   pub kept : IsNode (SplitAt at)
   pub held : IsHeldNode (SplitAt at)
 
-loop_takes : (line : ℕ) (i place : List ℕ) (at : At) → (index_of line i >>= λ link. or_number line (integer place) >>= λ at. Ok (Loop link at)) ≡ Ok at → SplitOf (split_key ∷ loop_key ∷ i ∷ place ∷ []) at
+loop_takes : (line : ℕ) (i place : List ℕ) (at : At) → (index_of line i >>= λ link. or_number line (integer place) >>= λ at. Ok (Loop link at)) ≡ Ok at
+    → SplitOf (split_key ∷ loop_key ∷ i ∷ place ∷ []) at
 loop_takes line i place at e =
     let a = bind_ok (index_of line i) (λ link. or_number line (integer place) >>= λ at. Ok (Loop link at)) at e in
     let b = bind_ok (or_number line (integer place)) (λ at. Ok (Loop a.0 at)) at a.2 in
@@ -54,7 +58,8 @@ loop_takes line i place at e =
       held = (n.most, z.fits);
     })
 
-turn_takes : (line : ℕ) (i place : List ℕ) (at : At) → (index_of line i >>= λ signal. ranged (range_of line 0 (2 ^ 32 - 1)) (number place) >>= λ rank. Ok (Turn signal rank)) ≡ Ok at → SplitOf (split_key ∷ turn_key ∷ i ∷ place ∷ []) at
+turn_takes : (line : ℕ) (i place : List ℕ) (at : At) → (index_of line i >>= λ signal. ranged (range_of line 0 (2 ^ 32 - 1)) (number place) >>= λ rank. Ok (Turn signal rank)) ≡ Ok at
+    → SplitOf (split_key ∷ turn_key ∷ i ∷ place ∷ []) at
 turn_takes line i place at e =
     let a = bind_ok (index_of line i) (λ signal. ranged (range_of line 0 (2 ^ 32 - 1)) (number place) >>= λ rank. Ok (Turn signal rank)) at e in
     let b = bind_ok (ranged (range_of line 0 (2 ^ 32 - 1)) (number place)) (λ rank. Ok (Turn a.0 rank)) at a.2 in
@@ -67,13 +72,15 @@ turn_takes line i place at e =
       held = (n.most, omega arith);
     })
 
-turn_by : (line : ℕ) (kind i place : List ℕ) (at : At) (b : Bool) → (b ≡ true → kind ≡ turn_key) → (if b then (index_of line i >>= λ signal. ranged (range_of line 0 (2 ^ 32 - 1)) (number place) >>= λ rank. Ok (Turn signal rank)) else fault line Shape) ≡ Ok at
+turn_by : (line : ℕ) (kind i place : List ℕ) (at : At) (b : Bool) → (b ≡ true → kind ≡ turn_key)
+    → (if b then (index_of line i >>= λ signal. ranged (range_of line 0 (2 ^ 32 - 1)) (number place) >>= λ rank. Ok (Turn signal rank)) else fault line Shape) ≡ Ok at
     → SplitOf (split_key ∷ kind ∷ i ∷ place ∷ []) at
 turn_by line kind i place at true is e = subst (λ (k : List ℕ). SplitOf (split_key ∷ k ∷ i ∷ place ∷ []) at) (sym (is refl)) (turn_takes line i place at e)
 turn_by line kind i place at false is e = absurd cc
 
 split_by : (line : ℕ) (kind i place : List ℕ) (at : At) (b : Bool) → (b ≡ true → kind ≡ loop_key)
-    → (if b then (index_of line i >>= λ link. or_number line (integer place) >>= λ at. Ok (Loop link at)) else (if is_text kind turn_key then (index_of line i >>= λ signal. ranged (range_of line 0 (2 ^ 32 - 1)) (number place) >>= λ rank. Ok (Turn signal rank)) else fault line Shape)) ≡ Ok at
+    → (if b then (index_of line i >>= λ link. or_number line (integer place) >>= λ at. Ok (Loop link at)) else
+    (if is_text kind turn_key then (index_of line i >>= λ signal. ranged (range_of line 0 (2 ^ 32 - 1)) (number place) >>= λ rank. Ok (Turn signal rank)) else fault line Shape)) ≡ Ok at
     → SplitOf (split_key ∷ kind ∷ i ∷ place ∷ []) at
 split_by line kind i place at true is e = subst (λ (k : List ℕ). SplitOf (split_key ∷ k ∷ i ∷ place ∷ []) at) (sym (is refl)) (loop_takes line i place at e)
 split_by line kind i place at false is e = turn_by line kind i place at (is_text kind turn_key) (same_text kind turn_key) e
@@ -100,7 +107,8 @@ abbrev pub HeadOf : Naming → List (List ℕ) → Head → Type 0
 HeadOf names ws (heads.Split at) = SplitOf ws at
 HeadOf names ws (heads.Leaf n form) = (ws ≡ first_words names form n) × (n ≤ 10000) × IsFormed form × FormSuits names form
 
-leaf_head : (names : Naming) (line : ℕ) (key n : List ℕ) (h : Head) → (if is_text key (fractions_key names) then (leaf_count line n >>= λ count. Ok (heads.Leaf count Plain)) else fault line Shape) ≡ Ok h → HeadOf names (key ∷ n ∷ []) h
+leaf_head : (names : Naming) (line : ℕ) (key n : List ℕ) (h : Head)
+    → (if is_text key (fractions_key names) then (leaf_count line n >>= λ count. Ok (heads.Leaf count Plain)) else fault line Shape) ≡ Ok h → HeadOf names (key ∷ n ∷ []) h
 leaf_head names line key n h e =
     let g = guard_ok (is_text key (fractions_key names)) line Shape (leaf_count line n >>= λ count. Ok (heads.Leaf count Plain)) h e in
     let a = bind_ok (leaf_count line n) (λ count. Ok (heads.Leaf count Plain)) h g.1 in
@@ -120,7 +128,8 @@ over_takes (Listed rows) line key d n h e =
     let k = same_text key leaf_key g.0 in
     moved (HeadOf (Listed rows) (key ∷ d ∷ n ∷ [])) (heads.Leaf b.0 (Over a.0)) h b.2 ((λ j. k j ∷ f.spelled j ∷ t.0 j ∷ []), t.1.greatest, f.formed, tt)
 
-split_head : (names : Naming) (line : ℕ) (key kind i place : List ℕ) (h : Head) → (if is_text key split_key then (split_of line kind i place >>= λ at. Ok (heads.Split at)) else fault line Shape) ≡ Ok h → HeadOf names (key ∷ kind ∷ i ∷ place ∷ []) h
+split_head : (names : Naming) (line : ℕ) (key kind i place : List ℕ) (h : Head)
+    → (if is_text key split_key then (split_of line kind i place >>= λ at. Ok (heads.Split at)) else fault line Shape) ≡ Ok h → HeadOf names (key ∷ kind ∷ i ∷ place ∷ []) h
 split_head names line key kind i place h e =
     let g = guard_ok (is_text key split_key) line Shape (split_of line kind i place >>= λ at. Ok (heads.Split at)) h e in
     let a = bind_ok (split_of line kind i place) (λ at. Ok (heads.Split at)) h g.1 in
@@ -147,7 +156,8 @@ leaf_again : (names : Naming) (form : LeafForm) (line n : ℕ) → FormSuits nam
 unfolding head_of over_head
 leaf_again names Plain line n suits formed few = rw (text_same (fractions_key names), number_again (range_of line 0 10000) n (record { least = omega arith; greatest = few; limit = omega arith })) refl
 leaf_again (Named table) (Over d) line n suits formed few = absurd cc
-leaf_again (Listed rows) (Over d) line n suits formed few = rw (denominator_again line d formed, number_again (range_of line 0 10000) n (record { least = omega arith; greatest = few; limit = omega arith })) refl
+leaf_again (Listed rows) (Over d) line n suits formed few =
+    rw (denominator_again line d formed, number_again (range_of line 0 10000) n (record { least = omega arith; greatest = few; limit = omega arith })) refl
 
 split_line : (line : ℕ) (at : At) (rest : List ℕ) → IsHeldNode (SplitAt at) → words_at line (line_of (split_words at) ++ 10 ∷ rest) ≡ Ok (split_words at, rest)
 split_line line (Loop link at) rest held =
@@ -164,9 +174,13 @@ fractions_is_key : (names : Naming) → IsKey (fractions_key names)
 fractions_is_key (Named table) = record { spaces = refl; feeds = refl }
 fractions_is_key (Listed rows) = record { spaces = refl; feeds = refl }
 
-leaf_line : (names : Naming) (form : LeafForm) (line n : ℕ) (rest : List ℕ) → IsFormed form → n ≤ 10000 → words_at line (line_of (first_words names form n) ++ 10 ∷ rest) ≡ Ok (first_words names form n, rest)
+leaf_line : (names : Naming) (form : LeafForm) (line n : ℕ) (rest : List ℕ) → IsFormed form → n ≤ 10000
+    → words_at line (line_of (first_words names form n) ++ 10 ∷ rest) ≡ Ok (first_words names form n, rest)
 leaf_line names Plain line n rest formed few = words_again line (fractions_key names) (decimal n ∷ []) rest (fractions_is_key names, (decimal_word n (omega arith), tt))
-leaf_line names (Over d) line n rest formed few = words_again line leaf_key (decimal d ∷ decimal n ∷ []) rest (record { spaces = refl; feeds = refl }, (whole_word (pos d) formed.1, (decimal_word n (omega arith), tt)))
+leaf_line names (Over d) line n rest formed few = words_again line leaf_key (decimal d ∷ decimal n ∷ []) rest (
+  record { spaces = refl; feeds = refl },
+  (whole_word (pos d) formed.1, (decimal_word n (omega arith), tt)),
+)
 
 -- ---- a node
 
@@ -179,10 +193,9 @@ rest_lengths : (names : Naming) (line : ℕ) (bytes after : List ℕ) (h : Head)
 unfolding rest_of
 rest_lengths names line bytes after (heads.Split at) x shorter e = moved (NodeLengths line bytes) (SplitAt at, line + 1, after) x e (record { shorter = omega arith; lines = omega arith })
 rest_lengths names line bytes after (heads.Leaf n form) x shorter e =
-    let a = bind_ok (weights_at names form n None (line + 1) after) (λ ws. if is_form names form ws.0 then Ok (LeafOf ws.0, line + 1 + n, ws.1) else fault (line + n) Number) x e in
-    let g = guard_ok (is_form names form a.0.0) (line + n) Number (Ok (LeafOf a.0.0, line + 1 + n, a.0.1)) x a.2 in
-    let few = (rising_lengths row_of_weight (weight_of names form) n None (line + 1) after a.0 a.1).1 in
-    moved (NodeLengths line bytes) (LeafOf a.0.0, line + 1 + n, a.0.1) x g.1 (record { shorter = omega (arith, few); lines = omega (arith, few) })
+    let a = bind_ok (leaf_at names form n line after) (λ ws. Ok (LeafOf ws.0, line + 1 + n, ws.1)) x e in
+    let few = (rising_lengths row_of_weight (weight_of names form) n None (line + 1) after a.0 (leaf_takes names form n line after a.0 a.1).0).1 in
+    moved (NodeLengths line bytes) (LeafOf a.0.0, line + 1 + n, a.0.1) x a.2 (record { shorter = omega (arith, few); lines = omega (arith, few) })
 
 pub node_lengths : (names : Naming) (line : ℕ) (bytes : List ℕ) (x : Node × ℕ × List ℕ) → node_at names line bytes ≡ Ok x → NodeLengths line bytes x
 unfolding node_at
@@ -228,7 +241,8 @@ leaf_parts : (names : Naming) (form : LeafForm) (ws : List Weight) → FormSuits
 leaf_parts (Named table) form ws suits e = suits
 leaf_parts (Listed rows) form ws suits e = sym (same_form_is (form_of ws) form e)
 
-node_from : (names : Naming) (table : Table) (line : ℕ) (bytes : List ℕ) (ws : List (List ℕ)) (after : List ℕ) (h : Head) (x : Node × ℕ × List ℕ) → IsOver names table → bytes ≡ line_of ws ++ 10 ∷ after → HeadOf names ws h → rest_of names h line after ≡ Ok x → NodeOf names table bytes x
+node_from : (names : Naming) (table : Table) (line : ℕ) (bytes : List ℕ) (ws : List (List ℕ)) (after : List ℕ) (h : Head) (x : Node × ℕ × List ℕ)
+    → IsOver names table → bytes ≡ line_of ws ++ 10 ∷ after → HeadOf names ws h → rest_of names h line after ≡ Ok x → NodeOf names table bytes x
 unfolding rest_of node_lines
 node_from names table line bytes ws after (heads.Split at) x over parts h e =
     moved (NodeOf names table bytes) (SplitAt at, line + 1, after) x e (record {
@@ -237,13 +251,13 @@ node_from names table line bytes ws after (heads.Split at) x over parts h e =
       held = h.held;
     })
 node_from names table line bytes ws after (heads.Leaf n form) x over parts h e =
-    let a = bind_ok (weights_at names form n None (line + 1) after) (λ ws. if is_form names form ws.0 then Ok (LeafOf ws.0, line + 1 + n, ws.1) else fault (line + n) Number) x e in
-    let g = guard_ok (is_form names form a.0.0) (line + n) Number (Ok (LeafOf a.0.0, line + 1 + n, a.0.1)) x a.2 in
-    let count = (rising_lengths row_of_weight (weight_of names form) n None (line + 1) after a.0 a.1).0 in
-    let t = rising_takes row_of_weight (weight_of names form) (weight_words names form) (KeptWeight table) (weight_takes names table form over h.2) n None (line + 1) after a.0 a.1 in
+    let a = bind_ok (leaf_at names form n line after) (λ ws. Ok (LeafOf ws.0, line + 1 + n, ws.1)) x e in
+    let l = leaf_takes names form n line after a.0 a.1 in
+    let count = (rising_lengths row_of_weight (weight_of names form) n None (line + 1) after a.0 l.0).0 in
+    let t = rising_takes row_of_weight (weight_of names form) (weight_words names form) (KeptWeight table) (weight_takes names table form over h.2) n None (line + 1) after a.0 l.0 in
     let words : ws ≡ first_words names form (length a.0.0) = h.0 ∙ ap (first_words names form) (sym count) in
-    moved (NodeOf names table bytes) (LeafOf a.0.0, line + 1 + n, a.0.1) x g.1 (record {
-      parts = parts ∙ (λ i. line_of (words i) ++ 10 ∷ t.parts i) ∙ ap (λ (f : LeafForm). ended_and (leaf_lines names f a.0.0) a.0.1) (leaf_parts names form a.0.0 h.3 g.0);
+    moved (NodeOf names table bytes) (LeafOf a.0.0, line + 1 + n, a.0.1) x a.2 (record {
+      parts = parts ∙ (λ i. line_of (words i) ++ 10 ∷ t.parts i) ∙ ap (λ (f : LeafForm). ended_and (leaf_lines names f a.0.0) a.0.1) (leaf_parts names form a.0.0 h.3 l.1);
       kept = (omega (arith, count, h.1), ascend_from None a.0.0 t.ascend, All-from_recursion (λ w. IsNamedIn table w.row) a.0.0 (kept_rows table a.0.0 t.kept));
       held = All-from_recursion IsHeldWeight a.0.0 (held_rows table a.0.0 t.kept);
     })
@@ -288,8 +302,9 @@ node_again names line (LeafOf ws) rest told =
     rw (
       leaf_line names form line (length ws) (ended_and (map (weight_line names form) ws) rest) told.2 told.0,
       leaf_again names form line (length ws) (form_suits names ws) told.2 told.0,
-      rising_again row_of_weight (weight_of names form) (weight_words names form) ws None (line + 1) rest (ascend_to None ws told.1) (reads_all names form ws told.3),
-      form_again names ws,
+      leaf_reads names form (length ws) line (ended_and (map (weight_line names form) ws) rest) (ws, rest)
+          (rising_again row_of_weight (weight_of names form) (weight_words names form) ws None (line + 1) rest (ascend_to None ws told.1) (reads_all names form ws told.3))
+          (form_again names ws),
     ) refl
 
 -- ---- trees
@@ -309,7 +324,8 @@ trees_less : (n : Node) (others : ℕ) (ns : List Node) → AreTrees (suc others
 trees_less (SplitAt at) others ns t = t
 trees_less (LeafOf ws) others ns t = t
 
-pub nodes_take : (names : Naming) (table : Table) → IsOver names table → (steps owed line : ℕ) (bytes : List ℕ) (x : List Node × ℕ × List ℕ) → nodes_at names steps owed line bytes ≡ Ok x → NodesOf names table owed bytes x
+pub nodes_take : (names : Naming) (table : Table) → IsOver names table → (steps owed line : ℕ) (bytes : List ℕ) (x : List Node × ℕ × List ℕ)
+    → nodes_at names steps owed line bytes ≡ Ok x → NodesOf names table owed bytes x
 unfolding nodes_at
 nodes_take names table over zero zero line bytes x e = moved (NodesOf names table 0 bytes) ([], line, bytes) x e (record { parts = refl; trees = tt; kept = tt; held = tt })
 nodes_take names table over (suc steps) zero line bytes x e = moved (NodesOf names table 0 bytes) ([], line, bytes) x e (record { parts = refl; trees = tt; kept = tt; held = tt })
@@ -369,7 +385,8 @@ enough names (suc s) (suc t) (suc others) line bytes p q =
     let shorter = (node_lengths names line bytes n e).shorter in
     ap (λ r. r >>= λ ns. Ok (n.0 ∷ ns.0, ns.1, ns.2)) (enough names s t (owed_after n.0 others) n.1 n.2 (omega arith) (omega arith)))
 
-pub first_node : (names : Naming) (others line : ℕ) (bytes : List ℕ) → nodes_at names (length bytes) (suc others) line bytes ≡ (node_at names line bytes >>= λ n. nodes_then names (length n.2) others n)
+pub first_node : (names : Naming) (others line : ℕ) (bytes : List ℕ) → nodes_at names (length bytes) (suc others) line bytes ≡
+    (node_at names line bytes >>= λ n. nodes_then names (length n.2) others n)
 unfolding nodes_at
 first_node names others line [] = sym (ap (λ r. r >>= λ n. nodes_then names (length n.2) others n) (no_node names line [] (omega arith)))
 first_node names others line (b ∷ bs) =

@@ -68,7 +68,8 @@ below_first rs row i j d a le lt h = split (le_cases i j le)
     split (inr e) = subst (λ n. is_below (get_or rs n d) row ≡ true) (sym e) h
 
 -- so many rows are below the row
-pub place_from_point : (rs : List RowId) (row : RowId) (i : ℕ) → i ≤ length rs → ((k : ℕ) (d : RowId) → 0 ≤ k → k < i → is_below (get_or rs k d) row ≡ true) → ((k : ℕ) (d : RowId) → i ≤ k → k < length rs → is_below (get_or rs k d) row ≡ false) → place_of_row rs row ≡ i + 1
+pub place_from_point : (rs : List RowId) (row : RowId) (i : ℕ) → i ≤ length rs → ((k : ℕ) (d : RowId) → 0 ≤ k → k < i → is_below (get_or rs k d) row ≡ true)
+    → ((k : ℕ) (d : RowId) → i ≤ k → k < length rs → is_below (get_or rs k d) row ≡ false) → place_of_row rs row ≡ i + 1
 unfolding place_of_row
 place_from_point [] row zero le low high = refl
 place_from_point [] row (suc i) le low high = absurd (omega arith)

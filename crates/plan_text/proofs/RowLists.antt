@@ -62,7 +62,8 @@ rows_take table line bytes x e =
     let b = bind_ok (row_count line a.0.0) (λ count. names_at table count None (line + 1) a.0.1 >>= λ rows. Ok (rows.0, line + 1 + count, rows.1)) x a.2 in
     let d = bind_ok (names_at table b.0 None (line + 1) a.0.1) (λ rows. Ok (rows.0, line + 1 + b.0, rows.1)) x b.2 in
     let count = (rising_lengths own_row (row_of table) b.0 None (line + 1) a.0.1 d.0 d.1).0 in
-    let t = rising_takes own_row (row_of table) (row_words_in table) (IsRowIn table) (λ line ws row e. let r = row_takes table line ws row e in (r.spelled, record { named = r.named; index = r.index })) b.0 None (line + 1) a.0.1 d.0 d.1 in
+    let t = rising_takes own_row (row_of table) (row_words_in table) (IsRowIn table) (λ line ws row e. let r = row_takes table line ws row e in
+    (r.spelled, record { named = r.named; index = r.index })) b.0 None (line + 1) a.0.1 d.0 d.1 in
     let words : a.0.0 ≡ rows_key ∷ decimal (length d.0.0) ∷ [] = count_takes line a.0.0 b.0 b.1 ∙ ap (λ (n : ℕ). rows_key ∷ decimal n ∷ []) (sym count) in
     moved (RowListOf table bytes) (d.0.0, line + 1 + b.0, d.0.1) x d.2 (record {
       parts = words_take line bytes a.0 a.1 ∙ (λ i. line_of (words i) ++ 10 ∷ t.parts i);
@@ -87,7 +88,8 @@ count_again line n few = rw (number_again (range_of line 0 (2 ^ 64 - 1)) n (reco
 count_line : (line n : ℕ) (rest : List ℕ) → n < 2 ^ 64 → words_at line (line_of (rows_key ∷ decimal n ∷ []) ++ 10 ∷ rest) ≡ Ok (rows_key ∷ decimal n ∷ [], rest)
 count_line line n rest few = words_again line rows_key (decimal n ∷ []) rest (record { spaces = refl; feeds = refl }, (decimal_word n (omega arith), tt))
 
-pub rows_again : (table : Table) (line : ℕ) (rs : List RowId) (rest : List ℕ) → Tells table → length rs < 2 ^ 64 → AscendRows None rs → AllByRecursion (IsRowIn table) rs → rows_at table line (ended_and (list_lines table rs) rest) ≡ Ok (rs, line + 1 + length rs, rest)
+pub rows_again : (table : Table) (line : ℕ) (rs : List RowId) (rest : List ℕ) → Tells table → length rs < 2 ^ 64 → AscendRows None rs
+    → AllByRecursion (IsRowIn table) rs → rows_at table line (ended_and (list_lines table rs) rest) ≡ Ok (rs, line + 1 + length rs, rest)
 unfolding rows_at
 rows_again table line rs rest tells few ascend all =
     rw (
@@ -123,7 +125,8 @@ used_small (LeafOf ws ∷ ns) s (inl h) held = in_small ws s h (recursion_from_A
 used_small (LeafOf ws ∷ ns) s (inr h) held = used_small ns s h held.1
 
 pub all_rows : (ns : List Node) → All IsNode ns → All IsHeldNode ns → AllByRecursion (IsRowIn ordinary) (rows_of ns)
-all_rows ns nodes held = kept_from (rows_of ns) (recursion_from_All IsNamed (rows_of ns) (rows_named ns nodes)) (each_listed (λ (r : RowId). r.index < 2 ^ 32) (rows_of ns) (λ s h. used_small ns s (rows_only ns s h) (recursion_from_All IsHeldNode ns held)))
+all_rows ns nodes held = kept_from (rows_of ns) (recursion_from_All IsNamed (rows_of ns) (rows_named ns nodes))
+    (each_listed (λ (r : RowId). r.index < 2 ^ 32) (rows_of ns) (λ s h. used_small ns s (rows_only ns s h) (recursion_from_All IsHeldNode ns held)))
 
 -- a row as a number
 abbrev code_of : RowId → ℕ

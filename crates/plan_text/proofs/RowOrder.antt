@@ -12,7 +12,8 @@ use Rattle.named_row.specs.Order.{is_below}
 abbrev pub row_cmp : RowId → RowId → Ordering
 row_cmp = (order.cmp-value).it
 
-cases_numbers : {X : Type 0} (a b i j : ℕ) (x y z : X) → match_ordering (ordering_then (nat_cmp a b) (nat_cmp i j)) x y z ≡ (if (nat_lt a b || ((a == b) && nat_lt i j)) then x else (if (nat_lt b a || ((b == a) && nat_lt j i)) then z else y))
+cases_numbers : {X : Type 0} (a b i j : ℕ) (x y z : X) → match_ordering (ordering_then (nat_cmp a b) (nat_cmp i j)) x y z ≡
+    (if (nat_lt a b || ((a == b) && nat_lt i j)) then x else (if (nat_lt b a || ((b == a) && nat_lt j i)) then z else y))
 cases_numbers a b i j x y z = grind (arith, nat_tests)
 
 pub row_cases : {X : Type 0} (r s : RowId) (x y z : X) → match_ordering (row_cmp r s) x y z ≡ (if is_below r s then x else (if is_below s r then z else y))

@@ -1,5 +1,6 @@
 -- Words that spell numbers.
-use Rattle.std.proofs.Common.{◌≡◌, ℕ, ◌+◌, ◌*◌, ◌/◌, ◌%◌, ◌^◌, ◌<◌, ◌≤◌, Bool, true, false, List, [], ◌∷◌, ◌++◌, length, get_or, Some, None, Ok, Err, refl, sym, ◌∙◌, ap, subst, arith, append_assoc, append-nil, ltb, ltb-true, le-ltb, lt-ltb, inl, inr}
+use Rattle.std.proofs.Common.{◌≡◌, ℕ, ◌+◌, ◌*◌, ◌/◌, ◌%◌, ◌^◌, ◌<◌, ◌≤◌, Bool, true, false, List, [], ◌∷◌, ◌++◌, length, get_or, Some, None, Ok, Err}
+use Rattle.std.proofs.Common.{refl, sym, ◌∙◌, ap, subst, arith, append_assoc, append-nil, ltb, ltb-true, le-ltb, lt-ltb, inl, inr}
 use Rattle.std.proofs.lemmas.Bool.{cases_lt, and_parts}
 use Rattle.std.specs.Prelude.{◌&&◌, if◌then◌else◌}
 use Rattle.std.proofs.lemmas.Bool.Decides.{nat_tests}
@@ -61,7 +62,8 @@ decimal-number w n e =
     let small : digits_value 10 w < 2 ^ 80 = ltb-true _ _ t.1 in
     (sym (decimal_value_digits w (digits_by_test.to w b.1) b.0 (omega arith)) ∙ ap decimal t.2, rw (← t.2) small)
 
-first_of_more : (n : ℕ) (ds : List ℕ) → 10 ≤ n → (is_plain ds ≡ true) × (0 < n / 10 → 48 < get_or ds 0 0) → (is_plain (ds ++ ((48 + n % 10) ∷ [])) ≡ true) × (0 < n → 48 < get_or (ds ++ ((48 + n % 10) ∷ [])) 0 0)
+first_of_more : (n : ℕ) (ds : List ℕ) → 10 ≤ n → (is_plain ds ≡ true) × (0 < n / 10 → 48 < get_or ds 0 0) → (is_plain (ds ++ ((48 + n % 10) ∷ [])) ≡ true)
+    × (0 < n → 48 < get_or (ds ++ ((48 + n % 10) ∷ [])) 0 0)
 first_of_more n [] le h = absurd cc
 first_of_more n (d ∷ []) le h = let k : 48 < d = h.1 (omega arith) in (lt-ltb _ _ k, λ _. k)
 first_of_more n (d ∷ e ∷ es) le h = let k : 48 < d = h.1 (omega arith) in (lt-ltb _ _ k, λ _. k)

@@ -90,7 +90,8 @@ pub record PairOf (key bytes : List ℕ) (x : ℕ × ℕ × List ℕ) : Type 0 w
 scale_takes : (line : ℕ) (bytes : List ℕ) (x : ℕ × ℕ × List ℕ) → scale_at line bytes ≡ Ok x → ScaleOf bytes x
 unfolding scale_at
 scale_takes line bytes x e =
-    let b = bind_ok (numbers_at grid_key (place_of line 1 1) bytes) (λ grid. numbers_at unit_key (place_of (line + 1) 1 2) grid.1 >>= λ unit. Ok (slice_index grid.0 0, slice_index unit.0 0, unit.1)) x e in
+    let b = bind_ok (numbers_at grid_key (place_of line 1 1) bytes) (λ grid. numbers_at unit_key (place_of (line + 1) 1 2) grid.1 >>= λ unit. Ok
+    (slice_index grid.0 0, slice_index unit.0 0, unit.1)) x e in
     let d = bind_ok (numbers_at unit_key (place_of (line + 1) 1 2) b.0.1) (λ unit. Ok (slice_index b.0.0 0, slice_index unit.0 0, unit.1)) x b.2 in
     let grid = numbers_take grid_key (place_of line 1 1) bytes b.0 b.1 in
     let unit = numbers_take unit_key (place_of (line + 1) 1 2) b.0.1 d.0 d.1 in
@@ -110,7 +111,8 @@ scale_takes line bytes x e =
 signals_take : (line : ℕ) (bytes : List ℕ) (x : List ℕ × List ℕ × List ℕ) → signals_at line bytes ≡ Ok x → SignalsOf line bytes x
 unfolding signals_at
 signals_take line bytes x e =
-    let a = bind_ok (numbers_at pattern_key (pattern_place line) bytes) (λ patterns. numbers_at red_key (place_of (line + 1) (length patterns.0) 0) patterns.1 >>= λ reds. Ok (patterns.0, reds.0, reds.1)) x e in
+    let a = bind_ok (numbers_at pattern_key (pattern_place line) bytes) (λ patterns. numbers_at red_key (place_of (line + 1) (length patterns.0) 0)
+    patterns.1 >>= λ reds. Ok (patterns.0, reds.0, reds.1)) x e in
     let b = bind_ok (numbers_at red_key (place_of (line + 1) (length a.0.0) 0) a.0.1) (λ reds. Ok (a.0.0, reds.0, reds.1)) x a.2 in
     let patterns = numbers_take pattern_key (pattern_place line) bytes a.0 a.1 in
     let reds = numbers_take red_key (place_of (line + 1) (length a.0.0) 0) a.0.1 b.0 b.1 in
@@ -121,10 +123,12 @@ signals_take line bytes x e =
       reds = reds.1;
     })
 
-pub ways_take : (out_key in_key : List ℕ) (line links : ℕ) (bytes : List ℕ) (x : List ℕ × List ℕ × List ℕ) → both_ways_at out_key in_key line links bytes ≡ Ok x → WaysOf out_key in_key line links bytes x
+pub ways_take : (out_key in_key : List ℕ) (line links : ℕ) (bytes : List ℕ) (x : List ℕ × List ℕ × List ℕ) → both_ways_at out_key in_key line links bytes ≡ Ok x
+    → WaysOf out_key in_key line links bytes x
 unfolding both_ways_at
 ways_take out_key in_key line links bytes x e =
-    let a = bind_ok (numbers_at out_key (place_of line links 0) bytes) (λ outbound. numbers_at in_key (place_of (line + 1) links 0) outbound.1 >>= λ inbound. Ok (outbound.0, inbound.0, inbound.1)) x e in
+    let a = bind_ok (numbers_at out_key (place_of line links 0) bytes) (λ outbound. numbers_at in_key (place_of (line + 1) links 0) outbound.1 >>=
+    λ inbound. Ok (outbound.0, inbound.0, inbound.1)) x e in
     let b = bind_ok (numbers_at in_key (place_of (line + 1) links 0) a.0.1) (λ inbound. Ok (a.0.0, inbound.0, inbound.1)) x a.2 in
     let outbound = numbers_take out_key (place_of line links 0) bytes a.0 a.1 in
     let inbound = numbers_take in_key (place_of (line + 1) links 0) a.0.1 b.0 b.1 in
@@ -150,7 +154,8 @@ pair_takes key line bytes x e =
 
 -- ---- the lines that speak of no band
 
-fits : (line : ℕ) (b0 b1 b2 b3 : List ℕ) (s : ℕ × ℕ × List ℕ) (g r : List ℕ × List ℕ × List ℕ) (f : ℕ × ℕ × List ℕ) → scale_at line b0 ≡ Ok s → signals_at (line + 2) b1 ≡ Ok g → both_ways_at run_out_key run_in_key (line + 4) (length g.0 - 1) b2 ≡ Ok r → pair_at first_key (line + 6) b3 ≡ Ok f
+fits : (line : ℕ) (b0 b1 b2 b3 : List ℕ) (s : ℕ × ℕ × List ℕ) (g r : List ℕ × List ℕ × List ℕ) (f : ℕ × ℕ × List ℕ) → scale_at line b0 ≡ Ok s
+    → signals_at (line + 2) b1 ≡ Ok g → both_ways_at run_out_key run_in_key (line + 4) (length g.0 - 1) b2 ≡ Ok r → pair_at first_key (line + 6) b3 ≡ Ok f
     → (band_out band_in : ℕ) → IsSmall band_out → IsSmall band_in → IsTiming s.0 s.1 g.0 g.1 r.0 r.1 f.0 f.1 band_out band_in
 fits line b0 b1 b2 b3 s g r f es eg er ef band_out band_in out in' =
     let scale = scale_takes line b0 s es in
@@ -186,7 +191,8 @@ abs_pos [] = refl
 abs_pos (n ∷ ns) = ap (λ (x : List ℕ). n ∷ x) (abs_pos ns)
 
 -- a timing whose numbers are in their ranges is held
-pub timing_is_held : (t : TimingRecord) (reds : List ℕ) (first_out first_in : ℕ) → IsTiming t.grid t.unit t.patterns reds t.run_out t.run_in first_out first_in t.band_out t.band_in → map pos reds ≡ t.reds → t.first_out ≡ pos first_out → t.first_in ≡ pos first_in → IsHeld t
+pub timing_is_held : (t : TimingRecord) (reds : List ℕ) (first_out first_in : ℕ) → IsTiming t.grid t.unit t.patterns reds t.run_out t.run_in first_out first_in t.band_out t.band_in
+    → map pos reds ≡ t.reds → t.first_out ≡ pos first_out → t.first_in ≡ pos first_in → IsHeld t
 timing_is_held t reds first_out first_in ranges is out in' =
     let reds_are : reds ≡ map unsigned_abs t.reds = sym (abs_pos reds) ∙ ap (map unsigned_abs) is in
     let out_is : first_out ≡ unsigned_abs t.first_out = sym (ap unsigned_abs out) in
@@ -205,7 +211,8 @@ pub record BaseOf (bytes : List ℕ) (x : Unbanded × List ℕ) : Type 0 where
   pub bands : (band_out band_in : ℕ) → ((x.0 band_out band_in).band_out ≡ band_out) × ((x.0 band_out band_in).band_in ≡ band_in)
 
 -- numbers from 0 on make a plan that is held
-is_held : (grid unit : ℕ) (patterns reds run_out run_in : List ℕ) (first_out first_in band_out band_in : ℕ) → IsTiming grid unit patterns reds run_out run_in first_out first_in band_out band_in → IsHeld (plan_of grid unit patterns reds run_out run_in first_out first_in band_out band_in)
+is_held : (grid unit : ℕ) (patterns reds run_out run_in : List ℕ) (first_out first_in band_out band_in : ℕ) → IsTiming grid unit patterns reds run_out
+    run_in first_out first_in band_out band_in → IsHeld (plan_of grid unit patterns reds run_out run_in first_out first_in band_out band_in)
 is_held grid unit patterns reds run_out run_in first_out first_in band_out band_in k =
     let e = abs_pos reds in record {
       ranges = subst (λ (ns : List ℕ). IsTiming grid unit patterns ns run_out run_in first_out first_in band_out band_in) (sym e) k;
@@ -217,9 +224,11 @@ is_held grid unit patterns reds run_out run_in first_out first_in band_out band_
 pub base_takes : (line : ℕ) (bytes : List ℕ) (x : Unbanded × List ℕ) → base_at line bytes ≡ Ok x → BaseOf bytes x
 unfolding base_at
 base_takes line bytes x e =
-    let a = bind_ok (scale_at line bytes) (λ s. signals_at (line + 2) s.2 >>= λ g. both_ways_at run_out_key run_in_key (line + 4) (length g.0 - 1) g.2 >>= λ r. pair_at first_key (line + 6) r.2 >>= λ f. Ok (plan_of s.0 s.1 g.0 g.1 r.0 r.1 f.0 f.1, f.2)) x e in
+    let a = bind_ok (scale_at line bytes) (λ s. signals_at (line + 2) s.2 >>= λ g. both_ways_at run_out_key run_in_key (line + 4) (length g.0 - 1) g.2
+    >>= λ r. pair_at first_key (line + 6) r.2 >>= λ f. Ok (plan_of s.0 s.1 g.0 g.1 r.0 r.1 f.0 f.1, f.2)) x e in
     let s = a.0 in
-    let c = bind_ok (signals_at (line + 2) s.2) (λ g. both_ways_at run_out_key run_in_key (line + 4) (length g.0 - 1) g.2 >>= λ r. pair_at first_key (line + 6) r.2 >>= λ f. Ok (plan_of s.0 s.1 g.0 g.1 r.0 r.1 f.0 f.1, f.2)) x a.2 in
+    let c = bind_ok (signals_at (line + 2) s.2) (λ g. both_ways_at run_out_key run_in_key (line + 4) (length g.0 - 1) g.2 >>= λ r. pair_at first_key
+    (line + 6) r.2 >>= λ f. Ok (plan_of s.0 s.1 g.0 g.1 r.0 r.1 f.0 f.1, f.2)) x a.2 in
     let g = c.0 in
     let d = bind_ok (both_ways_at run_out_key run_in_key (line + 4) (length g.0 - 1) g.2) (λ r. pair_at first_key (line + 6) r.2 >>= λ f. Ok (plan_of s.0 s.1 g.0 g.1 r.0 r.1 f.0 f.1, f.2)) x c.2 in
     let r = d.0 in
@@ -229,7 +238,8 @@ base_takes line bytes x e =
     let signals = signals_take (line + 2) s.2 g c.1 in
     let runs = ways_take run_out_key run_in_key (line + 4) (length g.0 - 1) g.2 r d.1 in
     let first = pair_takes first_key (line + 6) r.2 f h.1 in
-    let third : g.2 ≡ spelled run_out_key r.0 ++ 10 ∷ (spelled run_in_key r.1 ++ 10 ∷ (spelled first_key (f.0 ∷ f.1 ∷ []) ++ 10 ∷ f.2)) = runs.parts ∙ ap (λ (y : List ℕ). spelled run_out_key r.0 ++ 10 ∷ (spelled run_in_key r.1 ++ 10 ∷ y)) first.parts in
+    let third : g.2 ≡ spelled run_out_key r.0 ++ 10 ∷ (spelled run_in_key r.1 ++ 10 ∷ (spelled first_key (f.0 ∷ f.1 ∷ []) ++ 10 ∷ f.2)) = runs.parts
+    ∙ ap (λ (y : List ℕ). spelled run_out_key r.0 ++ 10 ∷ (spelled run_in_key r.1 ++ 10 ∷ y)) first.parts in
     let second = signals.parts ∙ (λ i. spelled pattern_key g.0 ++ 10 ∷ (spelled red_key (sym (abs_pos g.1) i) ++ 10 ∷ third i)) in
     let all = scale.parts ∙ ap (λ (y : List ℕ). spelled grid_key (s.0 ∷ []) ++ 10 ∷ (spelled unit_key (s.1 ∷ []) ++ 10 ∷ y)) second in
     moved (BaseOf bytes) (plan_of s.0 s.1 g.0 g.1 r.0 r.1 f.0 f.1, f.2) x h.2 (record {
@@ -255,13 +265,15 @@ plan_takes line bytes x e =
     })
 
 -- the numbers that the code read
-pub base_fits : (line : ℕ) (bytes rest : List ℕ) (grid unit : ℕ) (patterns reds run_out run_in : List ℕ) (first_out first_in band_out band_in : ℕ) → base_at line bytes ≡ Ok (plan_of grid unit patterns reds run_out run_in first_out first_in, rest) → IsSmall band_out → IsSmall band_in
+pub base_fits : (line : ℕ) (bytes rest : List ℕ) (grid unit : ℕ) (patterns reds run_out run_in : List ℕ) (first_out first_in band_out band_in : ℕ)
+    → base_at line bytes ≡ Ok (plan_of grid unit patterns reds run_out run_in first_out first_in, rest) → IsSmall band_out → IsSmall band_in
     → IsTiming grid unit patterns reds run_out run_in first_out first_in band_out band_in
 base_fits line bytes rest grid unit patterns reds run_out run_in first_out first_in band_out band_in e out in' =
     subst (λ (ns : List ℕ). IsTiming grid unit patterns ns run_out run_in first_out first_in band_out band_in) (abs_pos reds)
     ((base_takes line bytes (plan_of grid unit patterns reds run_out run_in first_out first_in, rest) e).held band_out band_in out in').ranges
 
-pub plan_fits : (line : ℕ) (bytes rest more : List ℕ) (grid unit : ℕ) (patterns reds run_out run_in : List ℕ) (first_out first_in band_out band_in : ℕ) → base_at line bytes ≡ Ok (plan_of grid unit patterns reds run_out run_in first_out first_in, rest) → pair_at band_key (line + 7) rest ≡ Ok (band_out, band_in, more)
+pub plan_fits : (line : ℕ) (bytes rest more : List ℕ) (grid unit : ℕ) (patterns reds run_out run_in : List ℕ) (first_out first_in band_out band_in : ℕ)
+    → base_at line bytes ≡ Ok (plan_of grid unit patterns reds run_out run_in first_out first_in, rest) → pair_at band_key (line + 7) rest ≡ Ok (band_out, band_in, more)
     → IsTiming grid unit patterns reds run_out run_in first_out first_in band_out band_in
 plan_fits line bytes rest more grid unit patterns reds run_out run_in first_out first_in band_out band_in e f =
     let band = pair_takes band_key (line + 7) rest (band_out, band_in, more) f in
@@ -301,7 +313,8 @@ signals_again line patterns reds rest p r =
     let first = numbers_again pattern_key (pattern_place line) patterns (spelled red_key reds ++ 10 ∷ rest) (record { spaces = refl; feeds = refl }) p in
     rw (first, second) refl
 
-pub ways_again : (out_key in_key : List ℕ) (line links : ℕ) (outbound inbound rest : List ℕ) → IsKey out_key → IsKey in_key → Suits (place_of line links 0) outbound → Suits (place_of (line + 1) links 0) inbound
+pub ways_again : (out_key in_key : List ℕ) (line links : ℕ) (outbound inbound rest : List ℕ) → IsKey out_key → IsKey in_key → Suits (place_of line links 0) outbound
+    → Suits (place_of (line + 1) links 0) inbound
     → both_ways_at out_key in_key line links (spelled out_key outbound ++ 10 ∷ (spelled in_key inbound ++ 10 ∷ rest)) ≡ Ok (outbound, inbound, rest)
 unfolding both_ways_at
 ways_again out_key in_key line links outbound inbound rest k l o i =
@@ -309,7 +322,8 @@ ways_again out_key in_key line links outbound inbound rest k l o i =
     let first = numbers_again out_key (place_of line links 0) outbound (spelled in_key inbound ++ 10 ∷ rest) k o in
     rw (first, second) refl
 
-pair_again : (key : List ℕ) (line first second : ℕ) (rest : List ℕ) → IsKey key → IsSmall first → IsSmall second → pair_at key line (spelled key (first ∷ second ∷ []) ++ 10 ∷ rest) ≡ Ok (first, second, rest)
+pair_again : (key : List ℕ) (line first second : ℕ) (rest : List ℕ) → IsKey key → IsSmall first → IsSmall second
+    → pair_at key line (spelled key (first ∷ second ∷ []) ++ 10 ∷ rest) ≡ Ok (first, second, rest)
 unfolding pair_at
 pair_again key line first second rest is f s = rw (numbers_again key (place_of line 2 0) (first ∷ second ∷ []) rest is (suits_two line first second f s)) refl
 
@@ -333,10 +347,12 @@ base_again line t rest held =
     let rest3 = spelled first_key (first_out ∷ first_in ∷ []) ++ 10 ∷ rest in
     let rest2 = spelled run_out_key t.run_out ++ 10 ∷ (spelled run_in_key t.run_in ++ 10 ∷ rest3) in
     let rest1 = spelled pattern_key t.patterns ++ 10 ∷ (spelled red_key reds ++ 10 ∷ rest2) in
-    let p : Suits (pattern_place (line + 2)) t.patterns = record { fewest = k.few; most = k.many; each = pattern_within (line + 2) t.patterns (recursion_from_All (λ p. (1 ≤ p) × (p ≤ 4)) t.patterns k.patterns_each) } in
+    let p : Suits (pattern_place (line + 2)) t.patterns =
+    record { fewest = k.few; most = k.many; each = pattern_within (line + 2) t.patterns (recursion_from_All (λ p. (1 ≤ p) × (p ≤ 4)) t.patterns k.patterns_each) } in
     let first = scale_again line t.grid t.unit rest1 k.grid_least k.grid_most k.unit_least k.unit_most in
     let second = signals_again (line + 2) t.patterns reds rest2 p (suits_small (line + 2 + 1) reds (length t.patterns) k.reds_count k.reds_each) in
-    let third = ways_again run_out_key run_in_key (line + 4) links t.run_out t.run_in rest3 (record { spaces = refl; feeds = refl }) (record { spaces = refl; feeds = refl }) (suits_small (line + 4) t.run_out links (omega arith) k.run_out_each) (suits_small (line + 4 + 1) t.run_in links (omega arith) k.run_in_each) in
+    let third = ways_again run_out_key run_in_key (line + 4) links t.run_out t.run_in rest3 (record { spaces = refl; feeds = refl })
+    (record { spaces = refl; feeds = refl }) (suits_small (line + 4) t.run_out links (omega arith) k.run_out_each) (suits_small (line + 4 + 1) t.run_in links (omega arith) k.run_in_each) in
     let fourth = pair_again first_key (line + 6) first_out first_in rest (record { spaces = refl; feeds = refl }) k.first_out_most k.first_in_most in
     rw (first, second, third, fourth) refl
 

@@ -39,7 +39,8 @@ pub record RowOf (table : Table) (ws : List (List ℕ)) (row : RowId) : Type 0 w
   pub named : IsNamedIn table row
   pub index : row.index < 2 ^ 32
 
-lone_takes : (table : Table) (line f : ℕ) (ws : List (List ℕ)) (row : RowId) → is_lone_in table f ≡ true → 1 ≤ f → f ≤ length table → lone_row line f ws ≡ Ok row → RowOf table (family_name_in table f ∷ ws) row
+lone_takes : (table : Table) (line f : ℕ) (ws : List (List ℕ)) (row : RowId) → is_lone_in table f ≡ true → 1 ≤ f → f ≤ length table → lone_row line f ws ≡ Ok row
+    → RowOf table (family_name_in table f ∷ ws) row
 unfolding lone_row
 lone_takes table line f [] row l first last e =
     moved (RowOf table (family_name_in table f ∷ [])) (record { family = f; index = 0 }) row e (record {
@@ -49,7 +50,8 @@ lone_takes table line f [] row l first last e =
     })
 lone_takes table line f (x ∷ ws) row l first last e = absurd cc
 
-indexed_takes : (table : Table) (line f : ℕ) (ws : List (List ℕ)) (row : RowId) → is_lone_in table f ≡ false → 1 ≤ f → f ≤ length table → indexed_row line f ws ≡ Ok row → RowOf table (family_name_in table f ∷ ws) row
+indexed_takes : (table : Table) (line f : ℕ) (ws : List (List ℕ)) (row : RowId) → is_lone_in table f ≡ false → 1 ≤ f → f ≤ length table
+    → indexed_row line f ws ≡ Ok row → RowOf table (family_name_in table f ∷ ws) row
 unfolding indexed_row
 indexed_takes table line f [] row l first last e = absurd cc
 indexed_takes table line f (i ∷ []) row l first last e =
@@ -62,11 +64,13 @@ indexed_takes table line f (i ∷ []) row l first last e =
     })
 indexed_takes table line f (i ∷ x ∷ ws) row l first last e = absurd cc
 
-family_by : (table : Table) (line f : ℕ) (ws : List (List ℕ)) (row : RowId) (b : Bool) → is_lone_in table f ≡ b → 1 ≤ f → f ≤ length table → (if b then lone_row line f ws else indexed_row line f ws) ≡ Ok row → RowOf table (family_name_in table f ∷ ws) row
+family_by : (table : Table) (line f : ℕ) (ws : List (List ℕ)) (row : RowId) (b : Bool) → is_lone_in table f ≡ b → 1 ≤ f → f ≤ length table
+    → (if b then lone_row line f ws else indexed_row line f ws) ≡ Ok row → RowOf table (family_name_in table f ∷ ws) row
 family_by table line f ws row true l first last e = lone_takes table line f ws row l first last e
 family_by table line f ws row false l first last e = indexed_takes table line f ws row l first last e
 
-in_family_takes : (table : Table) (line : ℕ) (name : List ℕ) (ws : List (List ℕ)) (row : RowId) (o : Option ℕ) → family_in table name ≡ o → in_family table line ws o ≡ Ok row → RowOf table (name ∷ ws) row
+in_family_takes : (table : Table) (line : ℕ) (name : List ℕ) (ws : List (List ℕ)) (row : RowId) (o : Option ℕ) → family_in table name ≡ o
+    → in_family table line ws o ≡ Ok row → RowOf table (name ∷ ws) row
 in_family_takes table line name ws row None f e = absurd cc
 in_family_takes table line name ws row (Some n) f e =
     let t = family_takes table name n f in
@@ -109,7 +113,8 @@ none_last (w ∷ ws) e = absurd (some_after (cut_last ws) e)
     some_after None e = cc
     some_after (Some p) e = cc
 
-last_by : (w : List ℕ) (ws : List (List ℕ)) (o : Option (List (List ℕ) × List ℕ)) (p : List (List ℕ) × List ℕ) → (o ≡ None → ws ≡ []) → ((q : List (List ℕ) × List ℕ) → o ≡ Some q → ws ≡ q.0 ++ q.1 ∷ []) → last_after w o ≡ Some p → w ∷ ws ≡ p.0 ++ p.1 ∷ []
+last_by : (w : List ℕ) (ws : List (List ℕ)) (o : Option (List (List ℕ) × List ℕ)) (p : List (List ℕ) × List ℕ) → (o ≡ None → ws ≡ [])
+    → ((q : List (List ℕ) × List ℕ) → o ≡ Some q → ws ≡ q.0 ++ q.1 ∷ []) → last_after w o ≡ Some p → w ∷ ws ≡ p.0 ++ p.1 ∷ []
 last_by w ws None p none some e =
     let k : ([], w) ≡ p = cc in
     ap (λ (y : List (List ℕ)). w ∷ y) (none refl) ∙ ap (λ (q : List (List ℕ) × List ℕ). q.0 ++ q.1 ∷ []) k
@@ -130,15 +135,18 @@ last_at (w ∷ v ∷ ws) zero d e = absurd (omega arith)
 last_at (w ∷ v ∷ ws) (suc k) d e = ap (last_after w.now) (last_at (v ∷ ws) k d (omega arith))
 
 -- the words of a row's line
-pub are_words : (table : Table) (row : RowId) (b : Bool) (more : List (List ℕ)) → Tells table → IsNamedIn table row → row.index < 2 ^ 32 → AreWords more → AreWords ((if b then family_name_in table row.family ∷ [] else family_name_in table row.family ∷ decimal row.index ∷ []) ++ more)
+pub are_words : (table : Table) (row : RowId) (b : Bool) (more : List (List ℕ)) → Tells table → IsNamedIn table row → row.index < 2 ^ 32 → AreWords more
+    → AreWords ((if b then family_name_in table row.family ∷ [] else family_name_in table row.family ∷ decimal row.index ∷ []) ++ more)
 are_words table row true more tells named few rest = (tells.word row.family named.first named.last, rest)
 are_words table row false more tells named few rest = (tells.word row.family named.first named.last, (decimal_word row.index (omega arith), rest))
 
 row_line_by : (table : Table) (line : ℕ) (row : RowId) (b : Bool) (more : List (List ℕ)) (rest : List ℕ) → Tells table → IsNamedIn table row → row.index < 2 ^ 32 → AreWords more
-    → let ws : List (List ℕ) = (if b then family_name_in table row.family ∷ [] else family_name_in table row.family ∷ decimal row.index ∷ []) ++ more in words_at line (line_of ws ++ 10 ∷ rest) ≡ Ok (ws, rest)
+    → let ws : List (List ℕ) = (if b then family_name_in table row.family ∷ [] else family_name_in table row.family ∷ decimal row.index ∷ []) ++ more in
+    words_at line (line_of ws ++ 10 ∷ rest) ≡ Ok (ws, rest)
 row_line_by table line row true more rest tells named few k = words_again line (family_name_in table row.family) more rest (are_words table row true more tells named few k)
 row_line_by table line row false more rest tells named few k = words_again line (family_name_in table row.family) (decimal row.index ∷ more) rest (are_words table row false more tells named few k)
 
 -- a row's name and more words
-pub row_line_again : (table : Table) (line : ℕ) (row : RowId) (more : List (List ℕ)) (rest : List ℕ) → Tells table → IsNamedIn table row → row.index < 2 ^ 32 → AreWords more → words_at line (line_of (row_words_in table row ++ more) ++ 10 ∷ rest) ≡ Ok (row_words_in table row ++ more, rest)
+pub row_line_again : (table : Table) (line : ℕ) (row : RowId) (more : List (List ℕ)) (rest : List ℕ) → Tells table → IsNamedIn table row → row.index < 2 ^ 32
+    → AreWords more → words_at line (line_of (row_words_in table row ++ more) ++ 10 ∷ rest) ≡ Ok (row_words_in table row ++ more, rest)
 row_line_again table line row more rest tells named few k = row_line_by table line row (is_lone_in table row.family) more rest tells named few k

@@ -26,11 +26,13 @@ Whole last (Err b) s = (IsThere b.kind × (b.line < last) × (s ≡ Err b)) ⊎ 
 
 -- ---- steps
 
-pub not_before : {X A : Type 0} (p : Part X) (last : ℕ) (r : Result X BadText) (f : X → Result A BadText) → Reaches p last r → ((v : X) → last < p.next v → NotBefore last (f v)) → NotBefore last (r >>= f)
+pub not_before : {X A : Type 0} (p : Part X) (last : ℕ) (r : Result X BadText) (f : X → Result A BadText) → Reaches p last r
+    → ((v : X) → last < p.next v → NotBefore last (f v)) → NotBefore last (r >>= f)
 not_before p last (Ok v) f here next = next v here
 not_before p last (Err b) f here next = here
 
-pub whole_then : {X A : Type 0} (p : Part X) (last : ℕ) (z : List ℕ) (r s : Result X BadText) (f g : X → Result A BadText) → Grows p last z r s → ((v : X) → p.next v + lines_in (p.rest v) ≡ last → Whole last (f v) (g (p.more z v))) → ((v : X) → last < p.next v → NotBefore last (g v)) → Whole last (r >>= f) (s >>= g)
+pub whole_then : {X A : Type 0} (p : Part X) (last : ℕ) (z : List ℕ) (r s : Result X BadText) (f g : X → Result A BadText) → Grows p last z r s
+    → ((v : X) → p.next v + lines_in (p.rest v) ≡ last → Whole last (f v) (g (p.more z v))) → ((v : X) → last < p.next v → NotBefore last (g v)) → Whole last (r >>= f) (s >>= g)
 whole_then p last z (Ok v) s f g h same next = subst (λ (y : Result _ BadText). Whole last (f v) (y >>= g)) (sym h.1) (same v h.0)
 whole_then p last z (Err b) s f g (inl h) same next = inl (h.0, h.1, ap (λ (y : Result _ BadText). y >>= g) h.2)
 whole_then p last z (Err b) s f g (inr h) same next = inr (h.0, not_before p last s g h.1 next)
@@ -94,7 +96,8 @@ closing_later x last line bytes before =
 
 pub closing_whole : {A : Type 0} (x : A) (last line : ℕ) (bytes z : List ℕ) → line + lines_in bytes ≡ last → Whole last (closing x line bytes) (closing x line (bytes ++ z))
 closing_whole x last line bytes z e =
-    whole_then (after_line (line + 1)) last z (fixed_at line end_line bytes) (fixed_at line end_line (bytes ++ z)) (nothing_then x (line + 1)) (nothing_then x (line + 1)) (fixed_grows last line end_line bytes z e)
+    whole_then (after_line (line + 1)) last z (fixed_at line end_line bytes) (fixed_at line end_line (bytes ++ z)) (nothing_then x (line + 1))
+    (nothing_then x (line + 1)) (fixed_grows last line end_line bytes z e)
     (λ r end. whole_made last (nothing_at (line + 1) r) (nothing_at (line + 1) (r ++ z)) (λ n. x) (nothing_whole last (line + 1) r z end))
     (λ r here. not_before_made last (nothing_at (line + 1) r) (λ n. x) (nothing_later last (line + 1) r (omega arith)))
 
@@ -157,7 +160,11 @@ names_first read whole empty =
       missing = λ text line e. missing_by (lines_in text + 1) (read text) (read (text ++ [])) line (whole text []) e;
       there = λ text b e other.
           let early : b.line < lines_in text + 1 = there_by (lines_in text + 1) (read text) (read (text ++ [])) b (whole text []) e other in
-          let first : 1 ≤ b.line = elim (cases_lt b.line 1) [ inl lt ↦ absurd (other (ap (λ (d : BadText). d.kind) (sym (err_is (record { line = 1; kind = Ended }) b (sym empty ∙ same [] text [] b e (omega arith)))))) | inr le ↦ le ] in
+          let first : 1 ≤ b.line = elim (cases_lt b.line 1) [
+            | inl lt ↦
+                absurd (other (ap (λ (d : BadText). d.kind) (sym (err_is (record { line = 1; kind = Ended }) b (sym empty ∙ same [] text [] b e (omega arith))))))
+            | inr le ↦ le
+          ] in
           (first, omega arith);
       before = λ start rest b e late. before_by (lines_in start + 1) (read start) (read (start ++ rest)) b (whole start rest) e (omega arith);
       here = same;

@@ -32,13 +32,15 @@ pub map_more : {X Y : Type 0} (f : X → Y) (xs : List X) (i : ℕ) (d x : X) �
 map_more {X} f xs i d x lt is = ap (map f) (take_more xs i d lt ∙ ap (λ (y : X). take i xs ++ y ∷ []) (sym is)) ∙ map-append f (take i xs) (x ∷ [])
 
 -- by one line
-pub more_mapped : {X : Type 0} (f : X → List ℕ) (old : List ℕ) (xs : List X) (i : ℕ) (d x : X) (before after : List ℕ) → i < length xs → x ≡ get_or xs i d → before ≡ old ++ ended (map f (take i xs)) → after ≡ before ++ ended (f x ∷ []) → after ≡ old ++ ended (map f (take (i + 1) xs))
+pub more_mapped : {X : Type 0} (f : X → List ℕ) (old : List ℕ) (xs : List X) (i : ℕ) (d x : X) (before after : List ℕ) → i < length xs → x ≡ get_or xs i d
+    → before ≡ old ++ ended (map f (take i xs)) → after ≡ before ++ ended (f x ∷ []) → after ≡ old ++ ended (map f (take (i + 1) xs))
 more_mapped f old xs i d x before after lt is e g =
     more_lines old (map f (take i xs)) (f x ∷ []) before after e g
     ∙ ap (λ (y : List (List ℕ)). old ++ ended y) (sym (map_more f xs i d x lt is))
 
 -- by the lines of what it is seen as
-pub more_flat : {X Y : Type 0} (view : X → Y) (f : Y → List (List ℕ)) (old : List ℕ) (xs : List X) (i : ℕ) (d x : X) (before after : List ℕ) → i < length xs → x ≡ get_or xs i d → before ≡ old ++ ended (flat_map f (map view (take i xs))) → after ≡ before ++ ended (f (view x)) → after ≡ old ++ ended (flat_map f (map view (take (i + 1) xs)))
+pub more_flat : {X Y : Type 0} (view : X → Y) (f : Y → List (List ℕ)) (old : List ℕ) (xs : List X) (i : ℕ) (d x : X) (before after : List ℕ) → i < length xs
+    → x ≡ get_or xs i d → before ≡ old ++ ended (flat_map f (map view (take i xs))) → after ≡ before ++ ended (f (view x)) → after ≡ old ++ ended (flat_map f (map view (take (i + 1) xs)))
 more_flat view f old xs i d x before after lt is e g =
     more_lines old (flat_map f (map view (take i xs))) (f (view x)) before after e g
     ∙ ap (λ (y : List (List ℕ)). old ++ ended y) (flat_map_more f [] (map view (take i xs)) (view x) ∙ ap (flat_map f) (sym (map_more view xs i d x lt is)))
@@ -54,5 +56,6 @@ pushed front ns i before after lt e f =
 pub whole : (out key ns : List ℕ) (i : ℕ) (before after : List ℕ) → length ns ≤ i → before ≡ (out ++ key) ++ flat_map spaced (take i ns) → after ≡ before ++ 10 ∷ []
     → after ≡ out ++ (spelled key ns ++ 10 ∷ [])
 whole out key ns i before after le e f =
-    f ∙ ap (λ (y : List ℕ). y ++ 10 ∷ []) (e ∙ ap (λ (y : List ℕ). (out ++ key) ++ flat_map spaced y) (take_all i ns le) ∙ append_assoc out key (flat_map spaced ns) ∙ ap (λ (y : List ℕ). out ++ y) (sym (spelled_flat key ns)))
+    f ∙ ap (λ (y : List ℕ). y ++ 10 ∷ []) (e ∙ ap (λ (y : List ℕ). (out ++ key) ++ flat_map spaced y) (take_all i ns le) ∙ append_assoc out key (flat_map spaced ns)
+    ∙ ap (λ (y : List ℕ). out ++ y) (sym (spelled_flat key ns)))
     ∙ append_assoc out (spelled key ns) (10 ∷ [])

@@ -1,5 +1,5 @@
 -- Reading the text of a certificate from its first line on.
-use Rattle.std.specs.Prelude.{ℕ, pos, ◌==◌, ◌&&◌, int_lt, unsigned_abs, slice_get, ◌+◌, ◌-◌, ◌^◌, suc, zero, List, [], ◌∷◌, length, Bool, false, Option, None, Some, Result, Ok, if◌then◌else◌}
+use Rattle.std.specs.Prelude.{ℕ, pos, ◌==◌, ◌&&◌, int_lt, unsigned_abs, slice_get, ◌+◌, ◌-◌, ◌^◌, suc, zero, List, [], ◌∷◌, ◌++◌, length, Bool, false, Option, None, Some, Result, Ok, if◌then◌else◌}
 use Rattle.rational_theory.specs.Rational.{ℚ, over}
 use Rattle.named_row.specs.declared.leaves.Weight.{Weight}
 use Rattle.named_row.specs.declared.names.RowId.{RowId}
@@ -123,6 +123,11 @@ rising_at row read (suc n) last line bytes = do
   xs ← rising_at row read n (Some (row x)) (line + 1) l.1
   Ok (x ∷ xs.0, xs.1)
 
+-- the row of the last of some items, or the one before them
+abbrev pub last_row : {A : Type 0} → (A → RowId) → Option RowId → List A → Option RowId
+last_row row last [] = last
+last_row row last (x ∷ xs) = last_row row (Some (row x)) xs
+
 abbrev pub own_row : RowId → RowId
 own_row row = row
 
@@ -182,12 +187,35 @@ abbrev pub IsHead : Head → Type 0
 IsHead (heads.Split at) = Unit {0}
 IsHead (heads.Leaf count form) = IsFormed form
 
--- the node that begins so at this line, the number of the line after it, and what follows; a leaf that had to be written otherwise is bad at its last line
+-- ---- a leaf
+
+-- these rows of a leaf, where it has to be written so; else a number of its last line is bad
+abbrev pub formed : Naming → LeafForm → ℕ → List Weight → Result (List Weight) BadText
+formed names form line ws = if is_form names form ws then Ok ws else fault line Number
+
+-- these rows and that of the last line, of which the order comes last
+unfoldable pub with_last : Naming → LeafForm → ℕ → List Weight → Weight → Result (List Weight) BadText
+with_last names form line ws w = do
+  all ← formed names form line (ws ++ w ∷ [])
+  if is_after (last_row row_of_weight None ws) w.row then Ok all else fault line Order
+
+-- so many rows of a leaf whose first line has this number
+unfoldable pub leaf_at : Naming → LeafForm → ℕ → ℕ → List ℕ → Result (List Weight × List ℕ) BadText
+leaf_at names form count line bytes =
+    if count == 0 then (formed names form line [] >>= λ none. Ok (none, bytes))
+    else (do
+      ws ← weights_at names form (count - 1) None (line + 1) bytes
+      l ← words_at (line + count) ws.1
+      w ← weight_of names form (line + count) l.0
+      all ← with_last names form (line + count) ws.0 w
+      Ok (all, l.1))
+
+-- the node that begins so at this line, the number of the line after it, and what follows
 unfoldable pub rest_of : Naming → Head → ℕ → List ℕ → Result (Node × ℕ × List ℕ) BadText
 rest_of names (heads.Split at) line bytes = Ok (SplitAt at, line + 1, bytes)
 rest_of names (heads.Leaf count form) line bytes = do
-  ws ← weights_at names form count None (line + 1) bytes
-  if is_form names form ws.0 then Ok (LeafOf ws.0, line + 1 + count, ws.1) else fault (line + count) Number
+  ws ← leaf_at names form count line bytes
+  Ok (LeafOf ws.0, line + 1 + count, ws.1)
 
 unfoldable pub node_at : Naming → ℕ → List ℕ → Result (Node × ℕ × List ℕ) BadText
 node_at names line bytes = do

@@ -14,7 +14,8 @@
 //! (`read_back`). `write_certificate` writes the first text of a certificate, and `write_second` the second, in which the rows that
 //! the leaves name are listed once and a leaf has whole numbers over their least common denominator. `read_certificate` reads both,
 //! by the first line (`certificate_of`). The reader of the second takes a leaf's multipliers, asks the function by which the writer
-//! chooses a leaf's form, and compares; so the rule on the common divisor stands in one place. The type `Certificate` keeps that a
+//! chooses a leaf's form, and compares; so the rule on the common divisor stands in one place. Another form is a bad number of the
+//! leaf's last line, and comes before the order of that line. The type `Certificate` keeps that a
 //! timing stands exactly where the claim has a value, that the nodes are one whole tree in preorder, and that the rows of each leaf
 //! have names and ascend (`IsCertificate`). What a certificate shows of an artery is said by `certificate_checker`.
 //!
@@ -36,6 +37,7 @@ mod fault;
 mod form;
 mod fraction;
 mod laws;
+mod leaf;
 mod lines;
 mod listed;
 mod naming;

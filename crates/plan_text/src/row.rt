@@ -133,7 +133,12 @@ fn cut_last<'a, 'b>(words: &'a [&'b [u8]]) -> Option<(&'a [&'b [u8]], &'b [u8])>
 
 /// A row, and its multiplier as the last word.
 #[tactic(auto, unfolding(crate::specs::CertificateReading::weight_of))]
-fn weight_of(names: Naming, form: LeafForm, line: u64, words: &[&[u8]]) -> Result<Weight, TextEnd>
+pub fn weight_of(
+    names: Naming,
+    form: LeafForm,
+    line: u64,
+    words: &[&[u8]],
+) -> Result<Weight, TextEnd>
     requires names { IsSmall names }
     requires form { IsFormed form }
     ensures { Gives (λ w. w) result (weight_of (naming_of names.entry) form line (map (λ w. w.now) words.now)) }

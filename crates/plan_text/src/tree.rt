@@ -2,19 +2,20 @@
 
 ghost use Rattle.std.specs.Prelude.{◌≡◌, ◌+◌, ◌-◌, ◌≤◌, ◌<◌, ◌^◌, map, length, IfOk, IfErr, None};
 ghost use Rattle.plan_text.specs.{Lines.{Gives}, Numbers.{number}, Fractions.{integer}};
-ghost use Rattle.plan_text.specs.Namings.{naming_of, IsSmall, is_form, is_list};
+ghost use Rattle.plan_text.specs.Namings.{naming_of, IsSmall, is_list};
 ghost use Rattle.certificate_model.specs.Warrants.{node_of};
 ghost use Rattle.plan_text.specs.CertificateReading.{or_number, split_of, over_head, head_of, IsHead, rest_of, node_at, owed_after, nodes_at, ends_after, tree_at};
 
 use crate::fault::{TextEnd, TextFault};
-use crate::form::{LeafForm, form_of};
+use crate::form::LeafForm;
 use crate::fraction::{denominator, integer};
+use crate::leaf::leaf_at;
 use crate::lines::{bad, fixed_at, nothing_at, words_at};
 use crate::listed::rows_of;
 use crate::naming::{Naming, fractions_key};
-use crate::row::{index_of, small, weights_at};
+use crate::row::{index_of, small};
 use certificate_model::CertNode;
-use named_row::{Leaf, Weight};
+use named_row::Leaf;
 use search_box::At;
 use std::alloc::Global;
 
@@ -98,16 +99,6 @@ fn head_of(names: Naming, line: u64, words: &[&[u8]]) -> Result<Head, TextEnd>
     }
 }
 
-/// Whether a leaf with these rows has to be written so.
-fn is_form(names: Naming, form: LeafForm, weights: &[Weight]) -> bool
-    ensures { result ≡ is_form (naming_of names.entry) form weights.now }
-{
-    match names {
-        Naming::Named(_) => true,
-        Naming::Listed(_) => form_of(weights) == form,
-    }
-}
-
 /// The node that begins so at this line, the number of the line after it, and what follows.
 #[tactic(auto, unfolding(crate::specs::CertificateReading::rest_of))]
 fn rest_of<'a>(
@@ -125,10 +116,7 @@ fn rest_of<'a>(
     match head {
         Head::Split(at) => Ok((CertNode::Split(at), line + 1, bytes)),
         Head::Leaf(count, form) => {
-            let (multipliers, rest) = weights_at(alloc, names, form, count, line + 1, bytes)?;
-            if !is_form(names, form, multipliers.as_slice()) {
-                return Err(bad(line + count as u64, TextFault::Number));
-            }
+            let (multipliers, rest) = leaf_at(alloc, names, form, count, line, bytes)?;
             let node = CertNode::Leaf(Leaf { multipliers });
             Ok((node, line + 1 + count as u64, rest))
         }

@@ -41,7 +41,8 @@ turn_passes i j w c d m n h a f e =
         ap (turn_at i j d) q ∙ cond-false (eqb w j) None (refused Div (number_in d w) (number_in d j) i w) (ne_eqb w j (λ r. absurd (omega arith)))
         ∙ refused_none Div (number_in d w) (number_in d j) i w f
 
-clear_passes : (i j w : ℕ) (e f c d : List ℚ) (p q : ℚ) → length c ≡ suc w → length d ≡ suc w → j < w → ((k : ℕ) → k < w → number_in c k ≡ number_in d k) → ((k : ℕ) → k < w → number_in e k ≡ number_in f k) → p ≡ q
+clear_passes : (i j w : ℕ) (e f c d : List ℚ) (p q : ℚ) → length c ≡ suc w → length d ≡ suc w → j < w → ((k : ℕ) → k < w → number_in c k ≡ number_in d k)
+    → ((k : ℕ) → k < w → number_in e k ≡ number_in f k) → p ≡ q
     → Fits128 Mul (number_in d j) (number_in f w) → Fits128 Sub (number_in d w) (number_in d j *ℚ number_in f w)
     → clear_refusal i j e c p ≡ None → clear_refusal i j f d q ≡ None
 unfolding clear_refusal
@@ -58,7 +59,8 @@ clear_passes i j w e f c d p q m n h a b g y z o =
     pick k (inl l) r = sym (here k l) ∙ none_each (clear_at i j e c) (length c) r k (omega arith)
     pick k (inr t) r =
         ap (clear_at i j f d) t
-        ∙ cond-false (eqb w j) None (earlier (refused Mul (number_in d j) (number_in f w) i w) (refused Sub (number_in d w) (number_in d j *ℚ number_in f w) i w)) (ne_eqb w j (λ u. absurd (omega arith)))
+        ∙ cond-false (eqb w j) None (earlier (refused Mul (number_in d j) (number_in f w) i w) (refused Sub (number_in d w) (number_in d j *ℚ number_in f w) i w))
+        (ne_eqb w j (λ u. absurd (omega arith)))
         ∙ ap₂ earlier (refused_none Mul (number_in d j) (number_in f w) i w y) (refused_none Sub (number_in d w) (number_in d j *ℚ number_in f w) i w z)
 
 -- ---- the rows and the goal row by one number
@@ -149,7 +151,8 @@ module _ (t u : Tableau) (r j : ℕ) (s : IsShaped t) (v : IsShaped u) (p : IsPl
   pub pivot_none : pivot_refusal r j t.rows t.goal ≡ None → pivot_refusal r j u.rows u.goal ≡ None
   unfolding pivot_refusal
   pivot_none e =
-      let x = neither (turn_refusal r j (line t r)) (earlier (clear_refusal (height t) j (turned j (line t r)) t.goal (cell t r j)) (first_below (row_refusal r j (turned j (line t r)) (cell t r j) t.rows) (height t))) e in
+      let x = neither (turn_refusal r j (line t r)) (earlier (clear_refusal (height t) j (turned j (line t r)) t.goal (cell t r j))
+      (first_below (row_refusal r j (turned j (line t r)) (cell t r j) t.rows) (height t))) e in
       let y = neither (clear_refusal (height t) j (turned j (line t r)) t.goal (cell t r j)) (first_below (row_refusal r j (turned j (line t r)) (cell t r j) t.rows) (height t)) x.1 in
       ap₂ earlier (turn_none x.0) (ap₂ earlier (goal_none y.0) (all_none (row_refusal r j (turned j (line u r)) (cell u r j) u.rows) (height u) (row_none y.1)))
 

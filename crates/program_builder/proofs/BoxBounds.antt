@@ -51,12 +51,15 @@ pub name_there : (a : Street) (box : Area) (t : NamedTableau) (k : ℕ) → IsBo
 name_there a box t k o h = (among_there_is a (name_in t.names k)).0 (record { place = k; within = let n = o.rows in omega arith; is = sym (name_is a box t k o) })
 
 -- a row that has no bound of its own for a box
-pub row_kept : (a : Street) (box : Area) (t : NamedTableau) (k : ℕ) → IsBounding a box t k → ((other : Area) → form_of a other (name_of (name_in t.names k).family (name_in t.names k).index) ≡ form_of a box (name_of (name_in t.names k).family (name_in t.names k).index)) → IsBounding a box t (k + 1)
+pub row_kept : (a : Street) (box : Area) (t : NamedTableau) (k : ℕ) → IsBounding a box t k
+    → ((other : Area) → form_of a other (name_of (name_in t.names k).family (name_in t.names k).index) ≡ form_of a box (name_of (name_in t.names k).family (name_in t.names k).index))
+    → IsBounding a box t (k + 1)
 row_kept a box t k o e = record {
   other = o.other;
   rows = o.rows;
   done = λ i h l. elim (last_or_before i k h) [
-    | inl q ↦ rw q (o.rest k (omega arith) (subst (λ n. n < length (rows_of a)) q l) ∙ ap (λ f. cells_of (rows.line a f)) (subst (λ (r : RowId). form_of a o.other (name_of r.family r.index) ≡ form_of a box (name_of r.family r.index)) (name_is a box t k o) (e o.other)))
+    | inl q ↦ rw q (o.rest k (omega arith) (subst (λ n. n < length (rows_of a)) q l)
+        ∙ ap (λ f. cells_of (rows.line a f)) (subst (λ (r : RowId). form_of a o.other (name_of r.family r.index) ≡ form_of a box (name_of r.family r.index)) (name_is a box t k o) (e o.other)))
     | inr q ↦ o.done i q l
   ];
   rest = λ i h l. o.rest i (omega arith) l;

@@ -3,7 +3,8 @@ use Rattle.std.proofs.Common.{◌≡◌, ℕ, List, [], ◌∷◌, map, refl, sy
 use Rattle.progression.specs.Street.{Street}
 use Rattle.linear_theory.specs.Boxes.{Area}
 use Rattle.linear_theory.specs.Rows.{line}
-use Rattle.linear_theory.specs.Names.{Name, WaitRow, FastRow, SlowRow, RiseRow, DropRow, CycleLowRow, CycleHighRow, RatioRow, LoopLowRow, LoopHighRow, TurnLowRow, TurnHighRow, LeastRow, EqualLowRow, EqualHighRow, NoRow, form_of, name_of}
+use Rattle.linear_theory.specs.Names.{Name, WaitRow, FastRow, SlowRow, RiseRow, DropRow, CycleLowRow, CycleHighRow, RatioRow, LoopLowRow, LoopHighRow}
+use Rattle.linear_theory.specs.Names.{TurnLowRow, TurnHighRow, LeastRow, EqualLowRow, EqualHighRow, NoRow, form_of, name_of}
 use Rattle.named_row.specs.declared.names.RowId.{RowId}
 use Rattle.simplex_theory.specs.Tableau.{width, IsShaped}
 use Rattle.simplex_theory.specs.RowLists.{StandsForRows, system_of}
@@ -55,7 +56,11 @@ fresh : (a : Street) (box : Area) → IsFresh (loaded a box)
 fresh a box = fresh_loaded (loaded a box) (system_of (box_rows a box) (goal_of a)) (is_loaded (artery_table a) box (artery_is_table a))
 
 stands : (a : Street) (box : Area) → StandsForRows (loaded a box) (box_rows a box) (goal_of a)
-stands a box = record { shape = shape_loaded (artery_table a) box (artery_is_table a); stands = stands-loaded (loaded a box) (system_of (box_rows a box) (goal_of a)) (is_loaded (artery_table a) box (artery_is_table a)) }
+stands a box = record {
+  shape = shape_loaded (artery_table a) box (artery_is_table a);
+  stands =
+      stands-loaded (loaded a box) (system_of (box_rows a box) (goal_of a)) (is_loaded (artery_table a) box (artery_is_table a));
+}
 
 basis_for : (a : Street) (box : Area) (vs : List ℕ) → IsBasisOf a vs → IsBasisFor vs (box_rows a box) (goal_of a) (width (loaded a box))
 basis_for a box vs b = record {
@@ -79,8 +84,15 @@ pub made_on_the_way : (a : Street) (box : Area) (vs : List ℕ) (t : NamedTablea
 made_on_the_way a box vs t r h s =
     let l = s.within in
     let q = under_way vs r.table r.dual r.names (loaded a box) r.fresh r.forms s.turns (omega arith) in
-    made_spent (artery_table a) _ t q.entering.shaped h s.spent (record { rows = q.entering.rows ∙ height-loaded (artery_table a) box; columns = q.entering.columns ∙ width-loaded (artery_table a) box })
+    made_spent (artery_table a) _ t q.entering.shaped h s.spent (record {
+      rows = q.entering.rows ∙ height-loaded (artery_table a) box;
+      columns =
+          q.entering.columns ∙ width-loaded (artery_table a) box;
+    })
 
 pub made_entered : (a : Street) (box : Area) (vs : List ℕ) → IsReady vs (loaded a box) → IsMadeFor a (entered_box a box vs)
 unfolding entry
-made_entered a box vs r = let q = ready_rows vs (loaded a box) r (length vs) (omega arith) in record { rows = q.0 ∙ height-loaded (artery_table a) box; columns = q.1 ∙ width-loaded (artery_table a) box }
+made_entered a box vs r = let q = ready_rows vs (loaded a box) r (length vs) (omega arith) in record {
+  rows = q.0 ∙ height-loaded (artery_table a) box;
+  columns = q.1 ∙ width-loaded (artery_table a) box;
+}

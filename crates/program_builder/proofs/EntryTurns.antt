@@ -25,7 +25,8 @@ pub turned_none : (vs : List ℕ) (s : NamedTableau) → s ≡ turned vs s 0
 unfolding entry_after
 turned_none vs s = refl
 
-pub turned_next : (vs : List ℕ) (s t u : NamedTableau) (k : ℕ) → t ≡ turned vs s k → u ≡ record { table = entry_turn vs t.table (variable_at vs k); names = t.names; spent = t.spent } → u ≡ turned vs s (k + 1)
+pub turned_next : (vs : List ℕ) (s t u : NamedTableau) (k : ℕ) → t ≡ turned vs s k → u ≡ record { table = entry_turn vs t.table (variable_at vs k); names = t.names; spent = t.spent }
+    → u ≡ turned vs s (k + 1)
 unfolding entry_after
 turned_next vs s t u k e f =
     f ∙ ap (λ (x : NamedTableau). record { table = entry_turn vs x.table (variable_at vs k); names = x.names; spent = x.spent }) e
@@ -43,10 +44,12 @@ all_passed vs t k e h = ap (first_below (refusal_at vs t)) (sym e) ∙ h
 pub refusal_here : (vs : List ℕ) (s t : NamedTableau) (k : ℕ) → t ≡ turned vs s k → turn_refusal vs t.table (variable_at vs k) ≡ refusal_at vs s.table k
 refusal_here vs s t k e = ap (λ (x : NamedTableau). turn_refusal vs x.table (variable_at vs k)) e
 
-pub first_refused : (vs : List ℕ) (s t : NamedTableau) (k : ℕ) (o : WideCell) → t ≡ turned vs s k → first_below (refusal_at vs s.table) k ≡ None → turn_refusal vs t.table (variable_at vs k) ≡ Some o → k < length vs
+pub first_refused : (vs : List ℕ) (s t : NamedTableau) (k : ℕ) (o : WideCell) → t ≡ turned vs s k → first_below (refusal_at vs s.table) k ≡ None
+    → turn_refusal vs t.table (variable_at vs k) ≡ Some o → k < length vs
     → entry_refusal vs s.table ≡ Some o
 unfolding entry_refusal
 first_refused vs s t k o e p q h = first_is (refusal_at vs s.table) k (length vs) o p (sym (refusal_here vs s t k e) ∙ q) h
 
-pub passed_next : (vs : List ℕ) (s t : NamedTableau) (k : ℕ) → t ≡ turned vs s k → first_below (refusal_at vs s.table) k ≡ None → turn_refusal vs t.table (variable_at vs k) ≡ None → first_below (refusal_at vs s.table) (k + 1) ≡ None
+pub passed_next : (vs : List ℕ) (s t : NamedTableau) (k : ℕ) → t ≡ turned vs s k → first_below (refusal_at vs s.table) k ≡ None
+    → turn_refusal vs t.table (variable_at vs k) ≡ None → first_below (refusal_at vs s.table) (k + 1) ≡ None
 passed_next vs s t k e p q = first_next (refusal_at vs s.table) k p (sym (refusal_here vs s t k e) ∙ q)

@@ -25,9 +25,11 @@ at-indices_to f (suc n) k h = pick (cases k n h) (λ l. at-indices_to f n k l)
     cases : (k n : ℕ) → k < suc n → (k < n) ⊎ (k ≡ n)
     cases k n h = grind arith
 
-    pick : (k < n) ⊎ (k ≡ n) → (k < n → name_in (indices_to f n) k ≡ record { family = f; index = suc k }) → name_in (indices_to f n ++ record { family = f; index = suc n } ∷ []) k ≡ record { family = f; index = suc k }
+    pick : (k < n) ⊎ (k ≡ n) → (k < n → name_in (indices_to f n) k ≡ record { family = f; index = suc k })
+        → name_in (indices_to f n ++ record { family = f; index = suc n } ∷ []) k ≡ record { family = f; index = suc k }
     pick (inl l) g = get_or_append_left (indices_to f n) (record { family = f; index = suc n } ∷ []) unnamed k (let e = length-indices_to f n in omega arith) ∙ g l
-    pick (inr l) g = get_or_push (indices_to f n) (record { family = f; index = suc n }) unnamed k (let e = length-indices_to f n in omega arith) ∙ ap (λ i. record { family = f; index = suc i }) (sym l)
+    pick (inr l) g = get_or_push (indices_to f n) (record { family = f; index = suc n }) unnamed k (let e = length-indices_to f n in omega arith)
+        ∙ ap (λ i. record { family = f; index = suc i }) (sym l)
 
 -- a family whose rows have the indices from 1 to n
 pub record HasUpTo (has : RowId → Bool) (f n : ℕ) : Type 0 where
@@ -105,7 +107,8 @@ module _ (has : RowId → Bool) where
 -- ---- an artery's waits
 first_two : (a : Street) → names_through (is_there a) (suc (count a)) 2 ≡ indices_to 1 (count a) ++ indices_to 2 (count a)
 unfolding names_through
-first_two a = ap₂ (λ xs ys. xs ++ ys) (below_all (is_there a) 1 (count a) (count a) (up_to_from (is_there a) 1 (count a) (λ i. row_decided a (name_of 1 i))) (omega arith)) (below_all (is_there a) 2 (count a) (count a) (up_to_from (is_there a) 2 (count a) (λ i. row_decided a (name_of 2 i))) (omega arith))
+first_two a = ap₂ (λ xs ys. xs ++ ys) (below_all (is_there a) 1 (count a) (count a) (up_to_from (is_there a) 1 (count a) (λ i. row_decided a (name_of 1 i))) (omega arith))
+    (below_all (is_there a) 2 (count a) (count a) (up_to_from (is_there a) 2 (count a) (λ i. row_decided a (name_of 2 i))) (omega arith))
 
 length-first_two : (a : Street) → length (names_through (is_there a) (suc (count a)) 2) ≡ count a + count a
 length-first_two a =

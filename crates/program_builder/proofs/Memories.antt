@@ -45,7 +45,8 @@ pub room_back : (a : Street) (box : Area) (turns : List Turn) → HaveRoom turns
 room_back a box turns h = subst (λ n. HaveRoom turns (n + 1)) (height-loaded (artery_table a) box) h
 
 -- ---- a memory that holds nothing
-pub forgotten : (a : Street) (m new : EntryMemory) → IsMemoryOf a m → new.is_kept ≡ false → HaveRoom new.turns.items (length (rows_of a) + 1) → new.bounds.len ≡ m.bounds.len → IsMadeFor a new.tableau → IsMemoryOf a new
+pub forgotten : (a : Street) (m new : EntryMemory) → IsMemoryOf a m → new.is_kept ≡ false → HaveRoom new.turns.items (length (rows_of a) + 1)
+    → new.bounds.len ≡ m.bounds.len → IsMadeFor a new.tableau → IsMemoryOf a new
 forgotten a m new h k t b made = record {
   made = made;
   columns = t;
@@ -54,7 +55,8 @@ forgotten a m new h k t b made = record {
 }
 
 -- and one that holds an entry
-pub holding : (a : Street) (box : Area) (vs : List ℕ) (m new : EntryMemory) → IsMemoryOf a m → new.bounds.len ≡ m.bounds.len → HaveRoom new.turns.items (length (rows_of a) + 1) → IsMadeFor a new.tableau
+pub holding : (a : Street) (box : Area) (vs : List ℕ) (m new : EntryMemory) → IsMemoryOf a m → new.bounds.len ≡ m.bounds.len
+    → HaveRoom new.turns.items (length (rows_of a) + 1) → IsMadeFor a new.tableau
     → new.basis.items ≡ vs → entry_refusal vs (loaded a box) ≡ None → AreNotesOf vs (loaded a box) new.turns.items → new.tableau ≡ entered_box a box vs → IsMemoryOf a new
 holding a box vs m new h b t made e p n x = record {
   made = made;

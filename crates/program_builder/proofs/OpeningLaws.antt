@@ -136,11 +136,13 @@ module _ (a : Street) (box : Area) where
     pub second_cell : (k : ℕ) → cell (exchange 0 0 (loaded a box)) (count a) k ≡ get_or (wait_row a Inbound) k (number 0)
     second_cell k =
         let own : cell (loaded a box) (count a) 0 ≡ number 0 = ap (λ (c : List ℚ). get_or c 0 (whole (pos 0))) second_line ∙ inbound_other in
-        cell_kept 0 0 (count a) k (loaded a box) (shaped-loaded table box (artery_is_table a)) first_place.place (rw (height-loaded table box) two_rows.1) (λ e. absurd (let n = v.few in omega arith)) own
+        cell_kept 0 0 (count a) k (loaded a box) (shaped-loaded table box (artery_is_table a)) first_place.place (rw (height-loaded table box) two_rows.1)
+        (λ e. absurd (let n = v.few in omega arith)) own
         ∙ ap (λ (c : List ℚ). get_or c k (whole (pos 0))) second_line
 
     pub second_place : IsPlace (exchange 0 0 (loaded a box)) (count a) 1
-    second_place = unit_place once (count a) 1 (rw (height-exchange 0 0 (loaded a box), (height-loaded table box)) two_rows.1) (rw (width-exchange 0 0 (loaded a box), (width-loaded table box)) (let n = v.few in omega arith)) (second_cell 1 ∙ inbound_band)
+    second_place = unit_place once (count a) 1 (rw (height-exchange 0 0 (loaded a box), (height-loaded table box)) two_rows.1)
+        (rw (width-exchange 0 0 (loaded a box), (width-loaded table box)) (let n = v.few in omega arith)) (second_cell 1 ∙ inbound_band)
 
     once_first : goal_cell once 0 ≡ number 1
     once_first =
@@ -199,7 +201,8 @@ module _ (a : Street) (box : Area) where
 
     placed_opening : IsPlaced (opening a box)
     unfolding opening after_pivots
-    placed_opening = placed-exchange (count a) 1 once shaped_once (placed-exchange 0 0 (loaded a box) (shaped-loaded table box (artery_is_table a)) (placed-loaded (loaded a box) _ (is_loaded table box (artery_is_table a))) first_place) second_place
+    placed_opening = placed-exchange (count a) 1 once shaped_once (placed-exchange 0 0 (loaded a box) (shaped-loaded table box (artery_is_table a))
+        (placed-loaded (loaded a box) _ (is_loaded table box (artery_is_table a))) first_place) second_place
 
     pub shaped_opening : IsShaped (opening a box)
     unfolding opening after_pivots
@@ -221,5 +224,6 @@ module _ (a : Street) (box : Area) where
     opening_stands = record {
       shape = subst (λ m. HasShape (box_rows a box) (goal_of a) m (width (opening a box))) ((height-loaded table box) ∙ sym height-opening)
           (subst (λ w. HasShape (box_rows a box) (goal_of a) (height (loaded a box)) w) ((width-loaded table box) ∙ sym width-opening) (shape_loaded table box (artery_is_table a)));
-      stands = stands-exchange (count a) 1 once _ shaped_once second_place (stands-exchange 0 0 (loaded a box) _ (shaped-loaded table box (artery_is_table a)) first_place (stands-loaded (loaded a box) _ (is_loaded table box (artery_is_table a))));
+      stands = stands-exchange (count a) 1 once _ shaped_once second_place (stands-exchange 0 0 (loaded a box) _ (shaped-loaded table box (artery_is_table a))
+          first_place (stands-loaded (loaded a box) _ (is_loaded table box (artery_is_table a))));
     }

@@ -43,12 +43,14 @@ slack_next vs u k bounds r h l a =
     let w : width (entry_after vs u k) ≤ variable_at vs k = let e = (ready_rows vs u r k (omega arith)).1 in omega arith in
     record {
       passed = first_next (refusal_at vs u) k a.passed (refusal_slack vs (entry_after vs u k) (variable_at vs k) w);
-      bounds = subst (λ n. AreBoundsOf (entry_after vs u n) bounds) (sym (add-one k)) (subst (λ (t : Tableau). AreBoundsOf t bounds) (sym (turn_slack vs (entry_after vs u k) (variable_at vs k) w)) a.bounds);
+      bounds = subst (λ n. AreBoundsOf (entry_after vs u n) bounds) (sym (add-one k))
+          (subst (λ (t : Tableau). AreBoundsOf t bounds) (sym (turn_slack vs (entry_after vs u k) (variable_at vs k) w)) a.bounds);
       narrow = a.narrow;
     }
 
 -- ---- the turn of a column
-module _ (vs : List ℕ) (turns : List Turn) (u : Tableau) (m : IsRemembered vs turns u) (ready : IsReady vs u) (k : ℕ) (d : Turn) (h : k < length vs) (o : k < length turns) (l : variable_at vs k < width u) where
+module _ (vs : List ℕ) (turns : List Turn) (u : Tableau) (m : IsRemembered vs turns u) (ready : IsReady vs u) (k : ℕ) (d : Turn) (h : k < length vs)
+    (o : k < length turns) (l : variable_at vs k < width u) where
   same_here : HaveSameCells (entry_after vs m.table k) (entry_after vs u k)
   same_here = same_after vs m.table u m.ready ready m.cells k (omega arith)
 
@@ -82,15 +84,18 @@ module _ (vs : List ℕ) (turns : List Turn) (u : Tableau) (m : IsRemembered vs 
   passed_there =
       sym (refusal_column vs (entry_after vs m.table k) (variable_at vs k) column_there) ∙ none_each (refusal_at vs m.table) (length vs) m.passed k h
 
-  pub column_next : (old new : List ℚ) → AreBoundsAfter vs u k old → AreTurned (slice_index_or turns k d).row (slice_index_or turns k d).column.items old new → IsNarrow new → AreBoundsAfter vs u (k + 1) new
+  pub column_next : (old new : List ℚ) → AreBoundsAfter vs u k old → AreTurned (slice_index_or turns k d).row (slice_index_or turns k d).column.items old new
+      → IsNarrow new → AreBoundsAfter vs u (k + 1) new
   unfolding entry_after
   column_next old new a t n =
       let x = subst (λ r. AreTurned r (slice_index_or turns k d).column.items old new) note_there.row t in
       let s = ready_shaped vs m.table m.ready k (omega arith) in
       let v = ready_shaped vs u ready k (omega arith) in
       let r = entry_row vs (entry_after vs m.table k) (variable_at vs k) in
-      let none = pivot_none (entry_after vs m.table k) (entry_after vs u k) r (variable_at vs k) s v place_there same_here (slice_index_or turns k d).column.items old new note_there.numbers a.bounds x passed_there in
-      let after = bounds_turned (entry_after vs m.table k) (entry_after vs u k) r (variable_at vs k) s v place_there same_here (slice_index_or turns k d).column.items old new note_there.numbers a.bounds x in
+      let none = pivot_none (entry_after vs m.table k) (entry_after vs u k) r (variable_at vs k) s v place_there same_here (slice_index_or turns k d).column.items
+      old new note_there.numbers a.bounds x passed_there in
+      let after = bounds_turned (entry_after vs m.table k) (entry_after vs u k) r (variable_at vs k) s v place_there same_here (slice_index_or turns k d).column.items
+      old new note_there.numbers a.bounds x in
       record {
         passed = first_next (refusal_at vs u) k a.passed
             (refusal_column vs (entry_after vs u k) (variable_at vs k) column_here
@@ -119,7 +124,12 @@ entry_height vs u kept e = ap (λ (t : NamedTableau). height t.table) e.is ∙ (
 pub entered_again : (vs : List ℕ) (u kept written : NamedTableau) (bounds : List ℚ) → IsReady vs u.table → IsEntryOf vs kept u → AreBoundsOf (entry vs u.table) bounds → HasBounds bounds kept written
     → written ≡ record { table = entry vs u.table; names = u.names; spent = u.spent }
 unfolding entry
-entered_again vs u kept written bounds r e b w = λ x. record { table = table_is x; names = (w.names ∙ ap (λ (t : NamedTableau). t.names) e.is) x; spent = (w.spent ∙ ap (λ (t : NamedTableau). t.spent) e.is) x }
+entered_again vs u kept written bounds r e b w = λ x. record {
+  table = table_is x;
+  names = (w.names ∙ ap (λ (t : NamedTableau). t.names) e.is) x;
+  spent =
+      (w.spent ∙ ap (λ (t : NamedTableau). t.spent) e.is) x;
+}
   where
     cells : HaveSameCells (entry_after vs e.table (length vs)) (entry_after vs u.table (length vs))
     cells = same_after vs e.table u.table e.ready r e.cells (length vs) (omega arith)

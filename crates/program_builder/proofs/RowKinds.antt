@@ -17,7 +17,8 @@ use Rattle.linear_theory.specs.Blocks.{green_part}
 use Rattle.linear_theory.specs.Boxes.{Area}
 use Rattle.linear_theory.specs.Rows.{Form, wait_form, ratio_form, ratio_below_form, ratio_above_form, rise_form, drop_form, least_form, equal_low_form, equal_high_form, goal_form}
 use Rattle.linear_theory.proofs.RowNumbers.{green_part_is}
-use Rattle.linear_theory.specs.Names.{Name, WaitRow, FastRow, SlowRow, RiseRow, DropRow, CycleLowRow, CycleHighRow, RatioRow, LoopLowRow, LoopHighRow, TurnLowRow, TurnHighRow, LeastRow, EqualLowRow, EqualHighRow, NoRow, HasRow, name_of, form_of, limits_form}
+use Rattle.linear_theory.specs.Names.{Name, WaitRow, FastRow, SlowRow, RiseRow, DropRow, CycleLowRow, CycleHighRow, RatioRow, LoopLowRow, LoopHighRow}
+use Rattle.linear_theory.specs.Names.{TurnLowRow, TurnHighRow, LeastRow, EqualLowRow, EqualHighRow, NoRow, HasRow, name_of, form_of, limits_form}
 use Rattle.program_builder.proofs.LineCells.{AllEntries}
 
 -- a fraction whose two numbers are n at most

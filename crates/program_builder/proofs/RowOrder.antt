@@ -1,5 +1,6 @@
 -- Lemmas on the definitions of `RowOrder`.
-use Rattle.std.proofs.Common.{◌≡◌, ◌↔◌, ℕ, zero, suc, List, [], ◌∷◌, ◌++◌, length, Bool, true, false, Option, None, Some, ◌+◌, ◌-◌, ◌<◌, ◌≤◌, ◌⊎◌, inl, inr, refl, sym, ◌∙◌, ap, subst, arith, length-append, if◌then◌else◌}
+use Rattle.std.proofs.Common.{◌≡◌, ◌↔◌, ℕ, zero, suc, List, [], ◌∷◌, ◌++◌, length, Bool, true, false, Option, None, Some, ◌+◌, ◌-◌, ◌<◌, ◌≤◌, ◌⊎◌}
+use Rattle.std.proofs.Common.{inl, inr, refl, sym, ◌∙◌, ap, subst, arith, length-append, if◌then◌else◌}
 use Rattle.std.proofs.lemmas.List.{get_or_append_left, get_or-append_right}
 use Rattle.progression.specs.Street.{Street, count}
 use Rattle.linear_theory.specs.Names.{HasRow, name_of, last_family}
@@ -124,7 +125,8 @@ unfolding names_through
 among_through has m g i zero h b l n = absurd (omega arith)
 among_through has m g i (suc f) h b l n = pick (below_or_not g (suc f)) (λ k. among_through has m g i f h b l k)
   where
-    pick : (g < suc f) ⊎ (suc f ≤ g) → (g ≤ f → IsAmong (names_through has m f) (record { family = g; index = i })) → IsAmong (names_through has m f ++ names_below has (suc f) m) (record { family = g; index = i })
+    pick : (g < suc f) ⊎ (suc f ≤ g) → (g ≤ f → IsAmong (names_through has m f) (record { family = g; index = i }))
+        → IsAmong (names_through has m f ++ names_below has (suc f) m) (record { family = g; index = i })
     pick (inl p) k = among_left (names_through has m f) (names_below has (suc f) m) _ (k (omega arith))
     pick (inr p) k =
         let e : g ≡ suc f = omega arith in
@@ -179,7 +181,8 @@ module _ (rows : List RowId) (o : IsAscending rows) where
       pick : (k < i) ⊎ (i ≤ k) → k ≤ i → StandsAt rows k r
       pick (inl h) n =
           let w = m.within in
-          absurd (f.first (name_in rows k) (record { place = k; within = omega arith; is = refl }) (place_after k (omega arith)) (subst (λ s. IsBelow (name_in rows k) s) m.is (o.ascending k i h m.within)))
+          absurd (f.first (name_in rows k) (record { place = k; within = omega arith; is = refl }) (place_after k (omega arith))
+          (subst (λ s. IsBelow (name_in rows k) s) m.is (o.ascending k i h m.within)))
       pick (inr h) n = let e : i ≡ k = omega arith in record { within = rw (← e) m.within; is = sym m.is ∙ ap (name_in rows) e }
 
   -- and there is none after the last

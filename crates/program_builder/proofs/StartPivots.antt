@@ -182,7 +182,8 @@ pub record IsOnTheWay (ps : List StartPivot) (s t : NamedTableau) (rest : List S
 pub way_begins : (ps : List StartPivot) (s : NamedTableau) → AreReady ps s.table → s.spent ≡ false → IsOnTheWay ps s s ps
 way_begins ps s r u = record { ready = r; state = refl; unspent = u }
 
-pub way_next : (ps : List StartPivot) (s t u : NamedTableau) (p : StartPivot) (rest : List StartPivot) → IsOnTheWay ps s t (p ∷ rest) → u ≡ record t { table = exchange p.row p.column t.table } → IsOnTheWay ps s u rest
+pub way_next : (ps : List StartPivot) (s t u : NamedTableau) (p : StartPivot) (rest : List StartPivot) → IsOnTheWay ps s t (p ∷ rest)
+    → u ≡ record t { table = exchange p.row p.column t.table } → IsOnTheWay ps s u rest
 unfolding after_pivots
 way_next ps s t u p rest w e = subst (λ v. IsOnTheWay ps s v rest) (sym e) (record { ready = w.ready.2; state = w.state; unspent = w.unspent })
 

@@ -124,7 +124,8 @@ module _ (z : Sizes) where
     abbrev AreOff : List StartPivot → Type 0
     AreOff ps = AtEach (λ q. (q.column ≡ p.column → ⊥) × (get_or c q.column (whole (pos 0)) ≡ whole (pos 0))) ps
 
-    columns_kept : (r : List ℚ) (ps : List StartPivot) → AreOff ps → AtEach (λ q. IsParts z.d z.n (get_or r q.column (whole (pos 0)))) ps → AtEach (λ q. IsParts z.d z.n (get_or (cleared p.column after r) q.column (whole (pos 0)))) ps
+    columns_kept : (r : List ℚ) (ps : List StartPivot) → AreOff ps → AtEach (λ q. IsParts z.d z.n (get_or r q.column (whole (pos 0)))) ps
+        → AtEach (λ q. IsParts z.d z.n (get_or (cleared p.column after r) q.column (whole (pos 0)))) ps
     columns_kept r [] o h = tt
     columns_kept r (q ∷ ps) o h = (subst (IsParts z.d z.n) (sym (column_kept r q.column o.0.0 o.0.1)) h.0, columns_kept r ps o.1 h.1)
 

@@ -73,7 +73,8 @@ turning_own r column old now k t e = record {
 }
 
 -- another row
-pub turning_next : (r : ℕ) (column old now : List ℚ) (k : ℕ) (x : ℚ) → IsTurningBounds r column old now k → (k ≡ r → ⊥) → k < length now → IsLess (number_in column k) (number_in now r) (number_in now k) x → FitsFrac x
+pub turning_next : (r : ℕ) (column old now : List ℚ) (k : ℕ) (x : ℚ) → IsTurningBounds r column old now k → (k ≡ r → ⊥) → k < length now
+    → IsLess (number_in column k) (number_in now r) (number_in now k) x → FitsFrac x
     → IsTurningBounds r column old (set now k x) (k + 1)
 turning_next r column old now k x t n h l f = record {
   count = length-set now k x ∙ t.count;
@@ -96,7 +97,8 @@ turning_next r column old now k x t n h l f = record {
         subst (λ z. IsLess (number_in column i) (number_in now r) (number_in old i) z) (sym (get_or-set_other now k i x (whole (pos 0)) (λ d. absurd (omega arith)))) (t.done i q o)
 
 -- the pivot's own row alone, where its new bound is 0
-pub turned_alone : (r : ℕ) (column old : List ℚ) (x : ℚ) → r < length old → IsNarrow old → x ≡ number_in old r *ℚ inverse_ℚ (number_in column r) → Fits128 Div (number_in old r) (number_in column r) → x ≡ whole (pos 0)
+pub turned_alone : (r : ℕ) (column old : List ℚ) (x : ℚ) → r < length old → IsNarrow old → x ≡ number_in old r *ℚ inverse_ℚ (number_in column r)
+    → Fits128 Div (number_in old r) (number_in column r) → x ≡ whole (pos 0)
     → AreTurned r column old (set old r x)
 turned_alone r column old x h n e q z = record {
   count = length-set old r x;
@@ -119,7 +121,8 @@ AreNotesBelow vs t k notes = (j : ℕ) (d : Turn) → j < k → j < length notes
 pub notes_none : (vs : List ℕ) (t : Tableau) (notes : List Turn) → AreNotesBelow vs t 0 notes
 notes_none vs t notes j d h = absurd (omega arith)
 
-pub notes_next : (vs : List ℕ) (t now : Tableau) (k : ℕ) (old new : List Turn) → now ≡ entry_after vs t k → length new ≡ length old → AreNotesBelow vs t k old → ((i : ℕ) (d : Turn) → (i ≡ k → ⊥) → get_or new i d ≡ get_or old i d)
+pub notes_next : (vs : List ℕ) (t now : Tableau) (k : ℕ) (old new : List Turn) → now ≡ entry_after vs t k → length new ≡ length old → AreNotesBelow vs t k old
+    → ((i : ℕ) (d : Turn) → (i ≡ k → ⊥) → get_or new i d ≡ get_or old i d)
     → (variable_at vs k < width now → (d : Turn) → k < length old → IsNoteOf now (entry_row vs now (variable_at vs k)) (variable_at vs k) (get_or new k d)) → AreNotesBelow vs t (k + 1) new
 notes_next vs t now k old new e l n o f j d h m w = elim (last_or_before j k h) [
   | inl q ↦ rw q (subst (λ (s : Tableau). IsNoteOf s (entry_row vs s (variable_at vs k)) (variable_at vs k) (get_or new k d)) e

@@ -88,7 +88,8 @@ module _ (bounds : List ℚ) (s now : NamedTableau) (k : ℕ) (x : ℚ) (o : IsW
       })
 
 -- ---- and the goal row
-pub all_done : (bounds : List ℚ) (s now new : NamedTableau) (k : ℕ) (x : ℚ) → IsWriting bounds s now k → k ≡ height s.table → length bounds ≡ height s.table + 1 → x ≡ number_in bounds k → new ≡ with_goal_bound x now → HasBounds bounds s new
+pub all_done : (bounds : List ℚ) (s now new : NamedTableau) (k : ℕ) (x : ℚ) → IsWriting bounds s now k → k ≡ height s.table → length bounds ≡ height s.table + 1
+    → x ≡ number_in bounds k → new ≡ with_goal_bound x now → HasBounds bounds s new
 unfolding with_goal_bound
 all_done bounds s now new k x o h l e f =
     subst (λ (t : NamedTableau). HasBounds bounds s t) (sym f)
@@ -109,8 +110,10 @@ all_done bounds s now new k x o h l e f =
       spent = o.spent;
     })
   where
-    pick : (i : ℕ) → (i < height now.table) ⊎ (i ≡ height now.table) → number_in bounds i ≡ number_at (record { rows = now.table.rows; goal = rebound x now.table.goal; basic = now.table.basic; standing = now.table.standing }) i (width now.table)
-    pick i (inl q) = let g = o.cells.rows in sym (number_row (record { rows = now.table.rows; goal = rebound x now.table.goal; basic = now.table.basic; standing = now.table.standing }) i (width now.table) q ∙ o.done i (omega arith) (omega arith))
+    pick : (i : ℕ) → (i < height now.table) ⊎ (i ≡ height now.table)
+        → number_in bounds i ≡ number_at (record { rows = now.table.rows; goal = rebound x now.table.goal; basic = now.table.basic; standing = now.table.standing }) i (width now.table)
+    pick i (inl q) = let g = o.cells.rows in sym (number_row (record { rows = now.table.rows; goal = rebound x now.table.goal; basic = now.table.basic; standing = now.table.standing })
+        i (width now.table) q ∙ o.done i (omega arith) (omega arith))
     pick i (inr q) =
         let g = o.cells.rows in
         ap (number_in bounds) (q ∙ sym g ∙ sym h) ∙ sym e ∙ sym (rebound_last x now.table.goal (width now.table) o.shaped.goals)

@@ -1,22 +1,20 @@
 //! The tableau that a box of an artery begins from: every row that the artery has, in the order of their names, with the weighted
 //! band as its goal, and in the basis either both bands (the opening) or what another box ended with (the entry).
 //!
-//! Begin with `start`, which makes the tableau, or `reset`, which makes the same state again in a tableau that `start` made
-//! for the artery. The state is `opened_box` (`specs/Building.antt`, over `specs/Opening.antt`): it is dual feasible for each
+//! Begin with `make_tableau` of an `ArteryTable`, an empty tableau, and `make_loaded`, one more in which the rows of a box are loaded
+//! and stay so. `reset_from` makes the opening of any box of the artery in the first, from a copy of the other: only some bounds depend
+//! on the box. The state is `opened_box` (`specs/Building.antt`, over `specs/Opening.antt`): it is dual feasible for each
 //! ratio, it stands for the box's rows and the weighted band, and no number of the start leaves 128 bits. `laws` says which
-//! rows it has, and what its goal row is.
+//! rows it has, and what its goal row is. `start` and `reset` make the same state with no rows loaded before.
 //!
-//! `enter` makes the entry instead, from the basic variables that `Tableau::basis` lists at an end (`specs/Entry.antt`), or says that
-//! one of its pivots leaves 128 bits, and makes the opening. Which of the two a box begins from, by the boxes above it, is `first_of`
-//! (`specs/First.antt`), with its law.
+//! `enter_remembering` makes the entry instead, from the basic variables that `Tableau::basis` lists at an end (`specs/Entry.antt`), or
+//! says that one of its pivots leaves 128 bits, and makes the opening. Which of the two a box begins from, by the boxes above it, is
+//! `first_of` (`specs/First.antt`), with its law.
 //!
-//! Only some bounds depend on the box. Where many boxes are begun, `make_loaded` keeps the rows of one as they are loaded, and
-//! `reset_from` makes what `reset` makes from a copy of it.
-//!
-//! The two parts of a split enter the same basis, and what is loaded for them differs in bounds alone. `enter_remembering` enters as
-//! `enter` does, from such a copy, and keeps in an `EntryMemory` what it takes to enter the other part: the row of each turn of a column, what all
-//! rows had at its place (the product form of the inverse), and the entered tableau. The other part's bounds alone are run through
-//! these turns (`specs/Remembering.antt`).
+//! The two parts of a split enter the same basis, and what is loaded for them differs in bounds alone. So an entry, made from such a
+//! copy, leaves in an `EntryMemory` what it takes to enter the other part: the row of each turn of a column, what all rows had at its
+//! place (the product form of the inverse), and the entered tableau. The other part's bounds alone are run through these turns
+//! (`specs/Remembering.antt`). `enter` does the same with neither copy nor memory.
 //!
 //! What isn't an artery's alone is made for any table of rows, a `TableRows` (`specs/RowTable.antt`): `make_tableau`, `load`
 //! (`specs/Loading.antt`) and `pivot`, one of the pivots of a start (`specs/StartPivots.antt`). `ArteryTable` is an artery's.

@@ -190,19 +190,23 @@ turning pattern red first_out band_out first_in band_in allowed r out back = let
 
 pub first_pattern : Good unequal_lefts (two_way 1 50 100 80 150 100)
 unfolding whole over ◌+ℚ◌ neg_ℚ ◌*ℚ◌ gcd
-first_pattern = let p = two_way 1 50 100 80 150 100 in turning 1 50 100 80 150 100 refl (record { cross = omega (arith, ints) }) (way_by_test unequal_lefts p Outbound refl refl refl) (way_by_test unequal_lefts p Inbound refl refl refl)
+first_pattern = let p = two_way 1 50 100 80 150 100 in turning 1 50 100 80 150 100 refl (record { cross = omega (arith, ints) })
+    (way_by_test unequal_lefts p Outbound refl refl refl) (way_by_test unequal_lefts p Inbound refl refl refl)
 
 pub second_pattern : Good unequal_lefts (two_way 2 50 100 100 150 90)
 unfolding whole over ◌+ℚ◌ neg_ℚ ◌*ℚ◌ gcd
-second_pattern = let p = two_way 2 50 100 100 150 90 in turning 2 50 100 100 150 90 refl (record { cross = omega (arith, ints) }) (way_by_test unequal_lefts p Outbound refl refl refl) (way_by_test unequal_lefts p Inbound refl refl refl)
+second_pattern = let p = two_way 2 50 100 100 150 90 in turning 2 50 100 100 150 90 refl (record { cross = omega (arith, ints) })
+    (way_by_test unequal_lefts p Outbound refl refl refl) (way_by_test unequal_lefts p Inbound refl refl refl)
 
 pub third_pattern : Good unequal_lefts (two_way 3 70 120 80 160 90)
 unfolding whole over ◌+ℚ◌ neg_ℚ ◌*ℚ◌ gcd
-third_pattern = let p = two_way 3 70 120 80 160 90 in turning 3 70 120 80 160 90 refl (record { cross = omega (arith, ints) }) (way_by_test unequal_lefts p Outbound refl refl refl) (way_by_test unequal_lefts p Inbound refl refl refl)
+third_pattern = let p = two_way 3 70 120 80 160 90 in turning 3 70 120 80 160 90 refl (record { cross = omega (arith, ints) })
+    (way_by_test unequal_lefts p Outbound refl refl refl) (way_by_test unequal_lefts p Inbound refl refl refl)
 
 pub fourth_pattern : Good unequal_lefts (two_way 4 50 100 80 150 90)
 unfolding whole over ◌+ℚ◌ neg_ℚ ◌*ℚ◌ gcd
-fourth_pattern = let p = two_way 4 50 100 80 150 90 in turning 4 50 100 80 150 90 refl (record { cross = omega (arith, ints) }) (way_by_test unequal_lefts p Outbound refl refl refl) (way_by_test unequal_lefts p Inbound refl refl refl)
+fourth_pattern = let p = two_way 4 50 100 80 150 90 in turning 4 50 100 80 150 90 refl (record { cross = omega (arith, ints) })
+    (way_by_test unequal_lefts p Outbound refl refl refl) (way_by_test unequal_lefts p Inbound refl refl refl)
 
 -- the outbound band's tick 231 lies in the red that begins at tick 30
 pub first_pattern_wider_out : Good unequal_lefts (two_way 1 50 100 81 150 100) → ⊥

@@ -1,5 +1,6 @@
 -- Long division, digit by digit.
-use Rattle.std.proofs.Common.{◌≡◌, ℕ, ℤ, pos, negsuc, ◌+◌, ◌*◌, ◌/◌, ◌%◌, ◌^◌, ◌<◌, ◌≤◌, ◌≤ℤ◌, List, [], ◌∷◌, ◌++◌, arith, refl, sym, ◌∙◌, ap, ap₂, unsigned_abs, append_assoc, add-one, div-lt_iff_lt-mul, le-div_iff_mul-le, lit<}
+use Rattle.std.proofs.Common.{◌≡◌, ℕ, ℤ, pos, negsuc, ◌+◌, ◌*◌, ◌/◌, ◌%◌, ◌^◌, ◌<◌, ◌≤◌, ◌≤ℤ◌, List, [], ◌∷◌, ◌++◌, arith, refl, sym, ◌∙◌, ap, ap₂}
+use Rattle.std.proofs.Common.{unsigned_abs, append_assoc, add-one, div-lt_iff_lt-mul, le-div_iff_mul-le, lit<}
 use Rattle.std.proofs.lemmas.Int.{ints}
 use Rattle.std.proofs.Math.Nat.{pow-succ', add-mul-div_right, add-mul-mod_self_right, div-div-eq-div-mul, mul-div-mul_right, one-le-pow}
 use Rattle.std.specs.Fmt.{decimal}

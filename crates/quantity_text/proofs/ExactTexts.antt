@@ -1,5 +1,6 @@
 -- The parts of an exact spelling: the minus, the numerator's digits, and what stands after them.
-use Rattle.std.proofs.Common.{◌≡◌, inl, inr, ◌*ℤ◌, ℕ, ℤ, pos, negsuc, neg_ℤ, ◌^◌, ◌<◌, ◌≤◌, Bool, true, false, List, [], ◌∷◌, ◌++◌, length, take, drop, get_or, Option, Some, None, arith, refl, sym, ◌∙◌, ap, ap₂, subst, unsigned_abs, length-drop, ◌-◌}
+use Rattle.std.proofs.Common.{◌≡◌, inl, inr, ◌*ℤ◌, ℕ, ℤ, pos, negsuc, neg_ℤ, ◌^◌, ◌<◌, ◌≤◌, Bool, true, false, List, [], ◌∷◌, ◌++◌, length, take}
+use Rattle.std.proofs.Common.{drop, get_or, Option, Some, None, arith, refl, sym, ◌∙◌, ap, ap₂, subst, unsigned_abs, length-drop, ◌-◌}
 use Rattle.std.specs.Prelude.{IfNone, nat_eq, if◌then◌else◌}
 use Rattle.std.specs.Fmt.{decimal, signed_decimal}
 use Rattle.std.specs.List.{position_or_len}

@@ -28,7 +28,9 @@ pub six_pushed : {A : Type 0} (start one two three four five six u v w x y z : L
 six_pushed start one two three four five six u v w x y z p q r h i j =
     two_pushed start one six u (v ++ (w ++ (x ++ (y ++ z)))) p (five_pushed one two three four five six v w x y z q r h i j)
 
-pub eight_pushed : {A : Type 0} (start one two three four five six seven eight s t u v w x y z : List A) → one ≡ start ++ s → two ≡ one ++ t → three ≡ two ++ u → four ≡ three ++ v → five ≡ four ++ w → six ≡ five ++ x → seven ≡ six ++ y → eight ≡ seven ++ z
+pub eight_pushed : {A : Type 0} (start one two three four five six seven eight s t u v w x y z : List A) → one ≡ start ++ s → two ≡ one ++ t → three ≡ two
+    ++ u → four ≡ three ++ v → five ≡ four ++ w → six ≡ five ++ x → seven ≡ six ++ y → eight ≡ seven ++ z
     → eight ≡ start ++ (s ++ (t ++ (u ++ (v ++ (w ++ (x ++ (y ++ z)))))))
 eight_pushed start one two three four five six seven eight s t u v w x y z p q r h i j k l =
-    two_pushed start one eight s (t ++ (u ++ (v ++ (w ++ (x ++ (y ++ z)))))) p (two_pushed one two eight t (u ++ (v ++ (w ++ (x ++ (y ++ z))))) q (six_pushed two three four five six seven eight u v w x y z r h i j k l))
+    two_pushed start one eight s (t ++ (u ++ (v ++ (w ++ (x ++ (y ++ z)))))) p (two_pushed one two eight t (u ++ (v ++ (w ++ (x ++ (y ++ z))))) q
+    (six_pushed two three four five six seven eight u v w x y z r h i j k l))

@@ -94,14 +94,16 @@ rebase x p n d q m e h k f =
 pub sum_ratio : (x y : ℚ) (p n d q m e : ℕ) → IsRatio x p n d → IsRatio y q m e → IsRatio (x +ℚ y) (p * e + q * d) (n * e + m * d) (d * e)
 unfolding ◌+ℚ◌
 sum_ratio x y p n d q m e h k =
-    let a = over_terms (x.num *ℤ pos y.den +ℤ y.num *ℤ pos x.den) (up x.num * y.den + up y.num * x.den) (down x.num * y.den + down y.num * x.den) (x.den * y.den) (mul-pos x.positive y.positive) (omega (arith, ints)) in
+    let a = over_terms (x.num *ℤ pos y.den +ℤ y.num *ℤ pos x.den) (up x.num * y.den + up y.num * x.den) (down x.num * y.den + down y.num * x.den)
+    (x.den * y.den) (mul-pos x.positive y.positive) (omega (arith, ints)) in
     rebase _ _ _ _ _ _ _ a (mul-pos h.above k.above) (omega (arith, ap (λ t. t * (y.den * e)) h.ratio, ap (λ t. t * (x.den * d)) k.ratio))
 
 -- a product in the terms of its parts
 pub product_ratio : (x y : ℚ) (p n d q m e : ℕ) → IsRatio x p n d → IsRatio y q m e → IsRatio (x *ℚ y) (p * q + n * m) (p * m + n * q) (d * e)
 unfolding ◌*ℚ◌
 product_ratio x y p n d q m e h k =
-    let a = over_terms (x.num *ℤ y.num) (up x.num * up y.num + down x.num * down y.num) (up x.num * down y.num + down x.num * up y.num) (x.den * y.den) (mul-pos x.positive y.positive) (omega (arith, ints)) in
+    let a = over_terms (x.num *ℤ y.num) (up x.num * up y.num + down x.num * down y.num) (up x.num * down y.num + down x.num * up y.num) (x.den * y.den)
+    (mul-pos x.positive y.positive) (omega (arith, ints)) in
     rebase _ _ _ _ _ _ _ a (mul-pos h.above k.above)
     (omega (arith, ap (λ t. t * (up y.num * e)) h.ratio, ap (λ t. t * (down y.num * e)) h.ratio, ap (λ t. t * (p * x.den)) k.ratio, ap (λ t. t * (n * x.den)) k.ratio))
 
@@ -159,7 +161,8 @@ pub neg-neg : (x : ℚ) → neg_ℚ (neg_ℚ x) ≡ x
 neg-neg x = same_ratio _ _ _ _ _ _ _ _ (neg_ratio _ _ _ _ (neg_ratio x _ _ _ (own_ratio x))) (own_ratio x) (omega arith)
 
 pub neg-*ℚ : (x y : ℚ) → neg_ℚ x *ℚ y ≡ neg_ℚ (x *ℚ y)
-neg-*ℚ x y = same_ratio _ _ _ _ _ _ _ _ (product_ratio _ y _ _ _ _ _ _ (neg_ratio x _ _ _ (own_ratio x)) (own_ratio y)) (neg_ratio _ _ _ _ (product_ratio x y _ _ _ _ _ _ (own_ratio x) (own_ratio y))) (omega arith)
+neg-*ℚ x y = same_ratio _ _ _ _ _ _ _ _ (product_ratio _ y _ _ _ _ _ _ (neg_ratio x _ _ _ (own_ratio x)) (own_ratio y))
+    (neg_ratio _ _ _ _ (product_ratio x y _ _ _ _ _ _ (own_ratio x) (own_ratio y))) (omega arith)
 
 -- ---- order
 -- the order in any terms, out and in

@@ -9,12 +9,14 @@ use Rattle.rational_theory.proofs.Order.{<ℚ_not-≤ℚ, <ℚ_trans, <ℚ-≤�
 use Rattle.rational_theory.specs.Compare.{cmp_ℚ}
 
 -- an order of cross products is one of numbers, and back
-at_order : (x y : ℚ) (o : Ordering) → MatchOrdering o ((x.num *ℤ pos y.den) <ℤ (y.num *ℤ pos x.den)) (x.num *ℤ pos y.den ≡ y.num *ℤ pos x.den) ((y.num *ℤ pos x.den) <ℤ (x.num *ℤ pos y.den)) → MatchOrdering o (x <ℚ y) (x ≡ y) (y <ℚ x)
+at_order : (x y : ℚ) (o : Ordering) → MatchOrdering o ((x.num *ℤ pos y.den) <ℤ (y.num *ℤ pos x.den)) (x.num *ℤ pos y.den ≡ y.num *ℤ pos x.den) ((y.num *ℤ pos x.den) <ℤ (x.num *ℤ pos y.den))
+    → MatchOrdering o (x <ℚ y) (x ≡ y) (y <ℚ x)
 at_order x y Less h = record { cross = h }
 at_order x y Equal h = same_cross x y h
 at_order x y Greater h = record { cross = h }
 
-order_at : (x y : ℚ) (o : Ordering) → MatchOrdering o (x <ℚ y) (x ≡ y) (y <ℚ x) → MatchOrdering o ((x.num *ℤ pos y.den) <ℤ (y.num *ℤ pos x.den)) (x.num *ℤ pos y.den ≡ y.num *ℤ pos x.den) ((y.num *ℤ pos x.den) <ℤ (x.num *ℤ pos y.den))
+order_at : (x y : ℚ) (o : Ordering) → MatchOrdering o (x <ℚ y) (x ≡ y) (y <ℚ x) → MatchOrdering o ((x.num *ℤ pos y.den) <ℤ (y.num *ℤ pos x.den))
+    (x.num *ℤ pos y.den ≡ y.num *ℤ pos x.den) ((y.num *ℤ pos x.den) <ℤ (x.num *ℤ pos y.den))
 order_at x y Less h = h.cross
 order_at x y Equal h = ap (λ (t : ℚ). t.num *ℤ pos y.den) h ∙ ap (λ (t : ℚ). y.num *ℤ pos t.den) (sym h)
 order_at x y Greater h = h.cross

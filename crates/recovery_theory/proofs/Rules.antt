@@ -26,7 +26,8 @@ use Rattle.progression.specs.declared.parts.Dir.{Dir}
 use Rattle.progression.specs.declared.parts.Dir.TheVariants.{Outbound, Inbound}
 use Rattle.linear_theory.proofs.Ranges.{some_signal}
 use Rattle.linear_theory.specs.Boxes.{Area}
-use Rattle.linear_theory.specs.Rows.{Form, minus_one, one_over, line, fast_form, slow_form, rise_form, drop_form, cycle_low_form, cycle_high_form, ratio_below_form, ratio_above_form, goal_form, least_form, equal_low_form, equal_high_form}
+use Rattle.linear_theory.specs.Rows.{Form, minus_one, one_over, line, fast_form, slow_form, rise_form, drop_form, cycle_low_form, cycle_high_form}
+use Rattle.linear_theory.specs.Rows.{ratio_below_form, ratio_above_form, goal_form, least_form, equal_low_form, equal_high_form}
 use Rattle.linear_theory.specs.Names.{FastRow, SlowRow, RiseRow, DropRow, CycleLowRow, CycleHighRow, RatioRow, LeastRow, EqualLowRow, EqualHighRow, limits_form}
 use Rattle.linear_theory.proofs.Terms.{one, less_one, zero_term}
 use Rattle.linear_theory.proofs.SparseSums.{InOrder}
@@ -163,10 +164,12 @@ module _ (a : Street) (box : Area) (x : List ℚ) (h : IsStreet a) (v : IsLongVe
   where_given P f (Some c) g m = g c (m refl)
 
   rise : (d : Dir) (i : ℕ) → HasLink a i → HasLink a (i + 1) → IfSome (change a d i) (λ (c : Pair). pace_change a timing d i ≤ℚ (c.most *ℚ number timing.grid))
-  rise d i k l = where_given (λ (c : Pair). pace_change a timing d i ≤ℚ (c.most *ℚ number timing.grid)) (rise_form a d i) (change a d i) (λ c m. rise_holds i k l c d m) (λ e. v.rows (RiseRow d i) (k, l, e))
+  rise d i k l = where_given (λ (c : Pair). pace_change a timing d i ≤ℚ (c.most *ℚ number timing.grid)) (rise_form a d i) (change a d i)
+      (λ c m. rise_holds i k l c d m) (λ e. v.rows (RiseRow d i) (k, l, e))
 
   drop : (d : Dir) (i : ℕ) → HasLink a i → HasLink a (i + 1) → IfSome (change a d i) (λ (c : Pair). (c.least *ℚ number timing.grid) ≤ℚ pace_change a timing d i)
-  drop d i k l = where_given (λ (c : Pair). (c.least *ℚ number timing.grid) ≤ℚ pace_change a timing d i) (drop_form a d i) (change a d i) (λ c m. drop_holds i k l c d m) (λ e. v.rows (DropRow d i) (k, l, e))
+  drop d i k l = where_given (λ (c : Pair). (c.least *ℚ number timing.grid) ≤ℚ pace_change a timing d i) (drop_form a d i) (change a d i)
+      (λ c m. drop_holds i k l c d m) (λ e. v.rows (DropRow d i) (k, l, e))
 
   -- ---- the ratio of the bands
   ratio_by : (k : ℚ) (out in_band : ℚ) (o : Ordering) → MatchOrdering o (k <ℚ number 1) (k ≡ number 1) (number 1 <ℚ k)
@@ -181,7 +184,8 @@ module _ (a : Street) (box : Area) (x : List ℚ) (h : IsStreet a) (v : IsLongVe
   ratio_below : a.head.ratio <ℚ number 1 → (a.head.ratio *ℚ number timing.band_out) ≤ℚ number timing.band_in
   ratio_below l =
       let e : is_lt (cmp_ℚ a.head.ratio (number 1)) ≡ true = ap is_lt (sym (cmp_ℚ-is a.head.ratio (number 1) Less l)) in
-      let m : IsMet x (line a (ratio_below_form a)) = subst (λ b. IsMet x (line a (if b then ratio_below_form a else ratio_above_form a))) e (v.rows (RatioRow 0) (refl, λ q. <ℚ_not-≤ℚ _ _ l (rw q (≤ℚ_refl (number 1))))) in
+      let m : IsMet x (line a (ratio_below_form a)) = subst (λ b. IsMet x (line a (if b then ratio_below_form a else ratio_above_form a))) e
+      (v.rows (RatioRow 0) (refl, λ q. <ℚ_not-≤ℚ _ _ l (rw q (≤ℚ_refl (number 1))))) in
       let row = row_shown a box x h v w (ratio_below_form a) (omega arith, tt, (omega arith, tt, tt)) m in
       undivided _ _ (linear (record { count = 1; low = at 0 ⊗ (at 1 ⊗ at 3) ⊕ (less_one ⊗ (at 2 ⊗ at 3) ⊕ zero_term); high = zero_term } ∷ []) 0
       (at 0 ⊗ at 1 ⊗ at 3) (at 2 ⊗ at 3) (a.head.ratio ∷ number timing.band_out ∷ number timing.band_in ∷ per_cycle ∷ []) (row, tt) refl)
@@ -189,13 +193,15 @@ module _ (a : Street) (box : Area) (x : List ℚ) (h : IsStreet a) (v : IsLongVe
   ratio_above : number 1 <ℚ a.head.ratio → number timing.band_in ≤ℚ (a.head.ratio *ℚ number timing.band_out)
   ratio_above l =
       let e : is_lt (cmp_ℚ a.head.ratio (number 1)) ≡ false = ap is_lt (sym (cmp_ℚ-is a.head.ratio (number 1) Greater l)) in
-      let m : IsMet x (line a (ratio_above_form a)) = subst (λ b. IsMet x (line a (if b then ratio_below_form a else ratio_above_form a))) e (v.rows (RatioRow 0) (refl, λ q. <ℚ_not-≤ℚ _ _ l (rw q (≤ℚ_refl (number 1))))) in
+      let m : IsMet x (line a (ratio_above_form a)) = subst (λ b. IsMet x (line a (if b then ratio_below_form a else ratio_above_form a))) e
+      (v.rows (RatioRow 0) (refl, λ q. <ℚ_not-≤ℚ _ _ l (rw q (≤ℚ_refl (number 1))))) in
       let row = row_shown a box x h v w (ratio_above_form a) (omega arith, tt, (omega arith, tt, tt)) m in
       undivided _ _ (linear (record { count = 1; low = minus (at 0) ⊗ (at 1 ⊗ at 3) ⊕ (one ⊗ (at 2 ⊗ at 3) ⊕ zero_term); high = zero_term } ∷ []) 0
       (at 2 ⊗ at 3) (at 0 ⊗ at 1 ⊗ at 3) (a.head.ratio ∷ number timing.band_out ∷ number timing.band_in ∷ per_cycle ∷ []) (row, tt) refl)
 
   ratio : RatioHolds a.head.ratio timing.band_out timing.band_in
-  ratio = ratio_by a.head.ratio (number timing.band_out) (number timing.band_in) (cmp_ℚ a.head.ratio (number 1)) (ranked_ℚ a.head.ratio (number 1) (cmp_ℚ a.head.ratio (number 1)) refl) ratio_below ratio_above
+  ratio = ratio_by a.head.ratio (number timing.band_out) (number timing.band_in) (cmp_ℚ a.head.ratio (number 1)) (ranked_ℚ a.head.ratio (number 1) (cmp_ℚ a.head.ratio (number 1)) refl)
+      ratio_below ratio_above
 
   -- ---- least bands
   -- a band, as a share of the cycle, is at least the least one
@@ -259,12 +265,14 @@ module _ (a : Street) (box : Area) (x : List ℚ) (h : IsStreet a) (v : IsLongVe
   outbound : IsGreenWay a timing Outbound
   outbound j l =
       let e : j + 1 - 1 ≡ j = omega arith in
-      subst (λ k. BandIsGreen (cycle a timing) (red_start a timing Outbound (j + 1)) (red_ticks a timing Outbound (j + 1)) (crossing a timing Outbound k) timing.band_out) e (green_at Outbound (j + 1) (omega arith, omega arith))
+      subst (λ k. BandIsGreen (cycle a timing) (red_start a timing Outbound (j + 1)) (red_ticks a timing Outbound (j + 1)) (crossing a timing Outbound k) timing.band_out)
+      e (green_at Outbound (j + 1) (omega arith, omega arith))
 
   inbound : IsGreenWay a timing Inbound
   inbound j l =
       let e : count a - (count a - j) ≡ j = omega arith in
-      subst (λ k. BandIsGreen (cycle a timing) (red_start a timing Inbound (count a - j)) (red_ticks a timing Inbound (count a - j)) (crossing a timing Inbound k) timing.band_in) e (green_at Inbound (count a - j) (omega arith, omega arith))
+      subst (λ k. BandIsGreen (cycle a timing) (red_start a timing Inbound (count a - j)) (red_ticks a timing Inbound (count a - j)) (crossing a timing Inbound k) timing.band_in)
+      e (green_at Inbound (count a - j) (omega arith, omega arith))
 
   -- ---- all rules
   pub timing_good : Good a timing

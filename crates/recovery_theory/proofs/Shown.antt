@@ -69,7 +69,8 @@ module _ (a : Street) (box : Area) (x : List ℚ) (h : IsStreet a) (v : IsLongVe
   pub wait_is : (d : Dir) (i : ℕ) → HasSignal a i → wait a timing d i ≡ ticks_of a x (WaitOf d i)
   wait_is Outbound i s = turned_mod (out_turned a (unit_of a x) (ticks_of a x) (pattern_at a x) (some_cycle a box x h v) i s) (wait_less a box x h v Outbound i s)
   wait_is Inbound i s =
-      turned_mod (in_turned a (unit_of a x) (ticks_of a x) (pattern_at a x) (some_cycle a box x h v) allowed shift_ticks (λ j k. block_ticks a box x h v j k (w.blocks j k)) i s) (wait_less a box x h v Inbound i s)
+      turned_mod (in_turned a (unit_of a x) (ticks_of a x) (pattern_at a x) (some_cycle a box x h v) allowed shift_ticks (λ j k. block_ticks a box x h v j k (w.blocks j k)) i s)
+      (wait_less a box x h v Inbound i s)
 
   -- ---- all columns
   ticks_are : (c : Column) → IsColumn (count a) c → ticks a timing c ≡ ticks_of a x c

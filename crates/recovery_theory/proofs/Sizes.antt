@@ -49,5 +49,6 @@ module _ (a : Street) (box : Area) (x : List ℚ) (h : IsStreet a) (v : IsLongVe
         let t = timing_of a x in
         let e = run_is a (unit_of a x) (ticks_of a x) (pattern_at a x) d i k in
         let m = ≤ℚ-*ℚ (run_high a d i) (number seconds) (number t.grid) l (number_not_negative t.grid) in
-        let n : number (run t d i) ≤ℚ number (seconds * t.grid) = ≤ℚ_trans _ _ _ (g.base.slow d i k) (subst (λ y. (run_high a d i *ℚ number t.grid) ≤ℚ y) (sym (whole-*ℤ (pos seconds) (pos t.grid))) m) in
+        let n : number (run t d i) ≤ℚ number (seconds * t.grid) =
+        ≤ℚ_trans _ _ _ (g.base.slow d i k) (subst (λ y. (run_high a d i *ℚ number t.grid) ≤ℚ y) (sym (whole-*ℤ (pos seconds) (pos t.grid))) m) in
         subst (λ r. r ≤ seconds * t.grid) e (number-≤ _ _ n)

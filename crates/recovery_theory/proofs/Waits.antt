@@ -54,7 +54,8 @@ module _ (a : Street) (unit : ℕ) (ticks : Column → ℕ) (pattern : ℕ → �
   first_turned : Turned (a.head.parts * unit) (line_at a timing Outbound 1 -ℤ red_end a timing 1) (ticks (WaitOf Outbound 1))
   first_turned =
       moved (omega (arith, ints, red_end_is a unit ticks pattern 1))
-      (remains (red_end a (unplaced a unit ticks pattern) 1 +ℤ pos (ticks (WaitOf Outbound 1))) (red_end a (unplaced a unit ticks pattern) 1) (a.head.parts * unit) (ticks (WaitOf Outbound 1)) above refl)
+      (remains (red_end a (unplaced a unit ticks pattern) 1 +ℤ pos (ticks (WaitOf Outbound 1))) (red_end a (unplaced a unit ticks pattern) 1)
+      (a.head.parts * unit) (ticks (WaitOf Outbound 1)) above refl)
 
   next_turned : (i : ℕ) → 2 ≤ i → i ≤ count a → Turned (a.head.parts * unit) (line_at a timing Outbound i -ℤ red_end a timing i) (ticks (WaitOf Outbound i))
   next_turned i h k =

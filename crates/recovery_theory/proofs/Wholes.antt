@@ -50,7 +50,8 @@ times_multiple y u m h e =
 pub whole_times : (v : ℚ) (p u m : ℕ) → number 0 ≤ℚ v → u ≡ m * (v *ℚ number p).den
     → v *ℚ number (p * u) ≡ number (unsigned_abs (v *ℚ number p).num * m)
 whole_times v p u m h e =
-    let both : number (p * u) ≡ number p *ℚ number u = same_ratio _ _ _ _ _ _ _ _ (whole_ratio (pos (p * u))) (product_ratio _ _ _ _ _ _ _ _ (whole_ratio (pos p)) (whole_ratio (pos u))) (omega arith) in
+    let both : number (p * u) ≡ number p *ℚ number u = same_ratio _ _ _ _ _ _ _ _ (whole_ratio (pos (p * u))) (product_ratio _ _ _ _ _ _ _ _ (whole_ratio (pos p)) (whole_ratio (pos u)))
+    (omega arith) in
     ap (λ t. v *ℚ t) both ∙ sym (*ℚ_assoc v (number p) (number u)) ∙ times_multiple (v *ℚ number p) u m (product_not_negative _ _ h (number_not_negative p)) e
 
 module _ (a : Street) (x : List ℚ) (p : 0 < a.head.parts) (h : AllNonNegative x) (j : ℕ) (l : j < length x) where

@@ -1,3 +1,4 @@
+mod Below
 pub mod Planning
 pub mod Pushed
 pub mod Shaped

@@ -1,5 +1,5 @@
 -- What `bands` finds of an artery and a timing.
-use Rattle.std.specs.Prelude.{◌≡◌, ◌≤◌, ℕ, pos, List, ◌++◌, codes, Option, Some, None, MatchOption}
+use Rattle.std.specs.Prelude.{◌≡◌, ◌≤◌, ℕ, pos, List, ◌++◌, codes, Option, Some, None}
 use Rattle.std.specs.Fmt.{decimal}
 use Rattle.rational_theory.specs.Rational.{over}
 use Rattle.progression.specs.Street.{Street}
@@ -11,17 +11,13 @@ use Rattle.artery_model.specs.Valid.{IsValid}
 use Rattle.time_space.specs.FirstFailing.{IsFirstFailing, rule_order, last_base_rule}
 use Rattle.time_space.specs.declared.failing.Failing.{Failing}
 use Rattle.diagram_print.specs.Measures.{dir_name, measure_text}
-use Rattle.band_measure.specs.Widest.{NoneRuns, IsWidest}
+use Rattle.band_measure.specs.Widest.{IsWidestBand}
 use Rattle.band_measure.specs.declared.pair.Widest.{Widest}
 use Rattle.run_commands.specs.Lines.{fails_line}
 use Rattle.run_inputs.specs.declared.cause.Cause.{Cause}
 use Rattle.run_inputs.specs.declared.cause.Cause.TheVariants as cause
 
--- the widest band of a direction on the timing's offsets, whatever its firsts and bands, or that no line runs there on any grid
-abbrev pub IsWidestBand : Street → TimingRecord → Dir → Option Widest → Type 0
-IsWidestBand a t d found = MatchOption found (NoneRuns a t d) (λ (w : Widest). IsWidest a t d w.first w.band)
-
--- as a fraction of the cycle, with the tick of its first line
+-- the widest band of a direction, as a fraction of the cycle, with the tick of its first line
 abbrev pub widest_line : Street → TimingRecord → Dir → Option Widest → List ℕ
 widest_line a t d None = codes "no band " ++ (dir_name d ++ codes "\n")
 widest_line a t d (Some w) = measure_text (codes "band " ++ dir_name d) (over (pos w.band) (cycle a t)) 6 ++ (codes " first " ++ (decimal w.first ++ codes "\n"))

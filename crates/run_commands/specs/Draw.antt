@@ -2,7 +2,6 @@
 use Rattle.std.specs.Prelude.{◌≡◌, ℕ, List, ◌++◌, length, codes, Option, Some, None}
 use Rattle.progression.specs.Street.{Street, count}
 use Rattle.progression.specs.TimingRecord.{TimingRecord}
-use Rattle.progression.specs.Good.{Good}
 use Rattle.time_space.specs.FirstFailing.{IsFirstFailing}
 use Rattle.time_space.specs.declared.failing.Failing.{Failing}
 use Rattle.time_space.specs.declared.failing.Failing.TheVariants as failing
@@ -10,14 +9,10 @@ use Rattle.second_plan.specs.declared.answer.PlanEnd.TheVariants as end
 use Rattle.diagram_draw.specs.Pages.{drawing, svg_text}
 use Rattle.run_inputs.specs.Puts.{With}
 use Rattle.run_commands.specs.Lines.{fails_line}
+use Rattle.run_commands.specs.Hold.{IsJudged}
 use Rattle.run_commands.specs.Round.{unplanned_line}
 use Rattle.run_inputs.specs.declared.cause.Cause.{Cause}
 use Rattle.run_inputs.specs.declared.cause.Cause.TheVariants as cause
-
--- the timing is good, or it breaks a rule, and this is the first
-abbrev pub IsBroken : Street → TimingRecord → Option Failing → Type 0
-IsBroken a t None = Good a t
-IsBroken a t (Some f) = IsFirstFailing a t f
 
 -- that it is drawn, and the rule that it breaks
 abbrev pub drawn_lines : Option Failing → List ℕ
@@ -28,7 +23,7 @@ drawn_lines (Some f) = codes "drawn\n" ++ fails_line f
 pub record IsDrawn (a : Street) (t : TimingRecord) (title : Option (List ℕ)) (lines text : List ℕ) : Type 0 where
   pub shape : length t.patterns ≡ count a
   pub broken : Option Failing
-  pub broken_is : IsBroken a t broken
+  pub judged : IsJudged a t broken
   pub lines_are : lines ≡ drawn_lines broken
   pub text_is : text ≡ svg_text (drawing a t title)
 

@@ -1,12 +1,33 @@
 -- What `--help` and `--version` write.
-use Rattle.std.specs.Prelude.{◌≡◌, ℕ, List, codes}
+use Rattle.std.specs.Prelude.{◌≡◌, ℕ, ◌==◌, List, [], ◌∷◌, codes, if◌then◌else◌}
+use Rattle.std.specs.Fmt.{decimal}
+use Rattle.artery_model.specs.Bounds.{first_version, second_version}
+use Rattle.description_reader.specs.KeyTable.{plan_version}
+use Rattle.certificate_model.specs.Words.{line_of}
+use Rattle.plan_text.specs.Spelling.{ended, head_line}
+use Rattle.plan_text.specs.CertificateText.{certificate_line}
+use Rattle.plan_text.specs.SecondText.{second_line}
+use Rattle.link_proof.specs.LinkWarrants.{links_line}
 use Rattle.run_commands.specs.Usages.{help_text}
 use Rattle.run_inputs.specs.declared.cause.Cause.{Cause}
 use Rattle.run_inputs.specs.declared.cause.Cause.TheVariants as cause
 
--- the program's version, and the versions of descriptions and the formats of certificates that it reads
+-- the format that a first line names: what stands after its space
+abbrev pub format_of : List ℕ → List ℕ
+format_of [] = []
+format_of (b ∷ bs) = if b == 32 then bs else format_of bs
+
+-- the program's version, the versions of descriptions and plans, and the formats of timings and certificates: of each the numbers by which its reader knows it
 unfoldable pub version_text : List ℕ
-version_text = codes "maxband 1.0.0\ndescriptions 1 2\ncertificates 1 2\ncertificates of links 1\n"
+version_text =
+    ended
+    (codes "maxband 1.1.0"
+    ∷ line_of (codes "descriptions" ∷ decimal first_version ∷ decimal second_version ∷ [])
+    ∷ line_of (codes "plans" ∷ decimal plan_version ∷ [])
+    ∷ line_of (codes "timings" ∷ format_of head_line ∷ [])
+    ∷ line_of (codes "certificates" ∷ format_of certificate_line ∷ format_of second_line ∷ [])
+    ∷ line_of (codes "certificates of links" ∷ format_of links_line ∷ [])
+    ∷ [])
 
 abbrev pub HelpFinds : Cause → List ℕ → Type 0
 HelpFinds c lines = (c ≡ cause.Done) × (lines ≡ help_text)

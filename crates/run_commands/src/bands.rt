@@ -53,7 +53,7 @@ fn push_band(
 }
 
 /// Writes the line of what is measured of a direction.
-fn push_widest(
+pub fn push_widest(
     out: &mut Vec<u8>,
     artery: &Artery,
     timing: &Timing,

@@ -3,9 +3,9 @@
 ghost use Rattle.std.specs.Prelude.{◌≡◌, IfOk, length, option_map};
 ghost use Rattle.progression.specs.Street.{count};
 ghost use Rattle.run_inputs.specs.Puts.{MayPut};
-ghost use Rattle.run_commands.specs.Draw.{IsBroken, drawn_lines, TimingFinds, DrawFinds};
+ghost use Rattle.run_commands.specs.Draw.{drawn_lines, TimingFinds, DrawFinds};
 
-use crate::hold::fails;
+use crate::hold::{broken, fails};
 use crate::lines::push_failing_line;
 use crate::round::unplanned;
 use artery_model::Artery;
@@ -15,17 +15,7 @@ use quantity_text::push_text;
 use run_inputs::{Answer, Cause, Put, Timed};
 use second_plan::PlanEnd;
 use std::alloc::Global;
-use time_space::{Failing, Timing, holds};
-
-/// The first rule that a timing breaks, where it isn't good on the artery.
-fn broken(artery: &Artery, timing: &Timing) -> Option<Failing>
-    ensures { IsBroken artery.now timing.now result }
-{
-    match holds(artery, timing) {
-        Ok(()) => None,
-        Err(failing) => Some(failing),
-    }
-}
+use time_space::{Failing, Timing};
 
 /// The lines of a picture of a timing that breaks this rule first, or none.
 fn drawn_lines(alloc: Global, broken: Option<Failing>) -> Result<Vec<u8>, Memory>

@@ -11,9 +11,9 @@ use run_inputs::{Answer, Cause, told};
 use std::alloc::Global;
 
 /// The version of the program.
-const PROGRAM_VERSION: &str = "1.0.0";
+const PROGRAM_VERSION: &str = "1.1.0";
 
-/// The versions of the program, of descriptions and of the formats of certificates.
+/// The versions of the program, of descriptions and of plans, and the formats of timings and certificates.
 #[tactic(auto, unfolding(crate::specs::Help::version_text))]
 fn version_text(alloc: Global) -> Result<Vec<u8>, Memory>
     ensures { IfOk result (λ text. text.items ≡ version_text) }
@@ -22,7 +22,7 @@ fn version_text(alloc: Global) -> Result<Vec<u8>, Memory>
     push_text(&mut text, PROGRAM_VERSION)?;
     push_text(
         &mut text,
-        "\ndescriptions 1 2\ncertificates 1 2\ncertificates of links 1\n",
+        "\ndescriptions 1 2\nplans 1\ntimings 1\ncertificates 1 2\ncertificates of links 1\n",
     )?;
     Ok(text)
 }

@@ -1,11 +1,12 @@
 //! The command `hold`.
 
-ghost use Rattle.std.specs.Prelude.{◌≡◌, None, IfOk};
-ghost use Rattle.run_commands.specs.{Hold.{HoldFinds}, Lines.{fails_line, holds_lines}};
+ghost use Rattle.std.specs.Prelude.{◌≡◌, ◌++◌, None, IfOk, OnOk};
+ghost use Rattle.run_commands.specs.{Hold.{HoldFinds, IsJudged, verdict_line}, Lines.{fails_line, holds_lines}};
 
 use crate::lines::{push_exact_line, push_failing_line};
 use artery_model::Artery;
 use narrow_fraction::{Frac, Memory};
+use quantity_text::push_text;
 use run_inputs::{Answer, Cause, told};
 use std::alloc::Global;
 use time_space::{Failing, Timing, holds, value};
@@ -17,6 +18,26 @@ fn holds_lines(alloc: Global, value: Frac) -> Result<Vec<u8>, Memory>
     let mut lines = Vec::new(alloc);
     push_exact_line(&mut lines, "holds\nweighted ", value)?;
     Ok(lines)
+}
+
+/// The first rule that the timing breaks on the artery, None where it holds.
+pub fn broken(artery: &Artery, timing: &Timing) -> Option<Failing>
+    ensures { IsJudged artery.now timing.now result }
+{
+    match holds(artery, timing) {
+        Ok(()) => None,
+        Err(failing) => Some(failing),
+    }
+}
+
+/// Writes the line of a verdict.
+pub fn push_verdict(out: &mut Vec<u8>, broken: Option<Failing>) -> Result<(), Memory>
+    ensures { OnOk result (out.new.items ≡ out.old.items ++ verdict_line broken) }
+{
+    match broken {
+        Some(failing) => push_failing_line(out, "fails ", failing),
+        None => push_text(out, "holds\n"),
+    }
 }
 
 /// The answer where a timing breaks a rule: nothing is put.

@@ -59,37 +59,37 @@ fn usage_line(usage: Usage) -> &'static str
 {
     match usage {
         Usage::Solve =>
-            "maxband solve ARTERY CERT [WORK]              search for a best timing, and put its certificate\n",
+            "maxband solve STREET CERT [WORK]              search for a best timing, and put its certificate\n",
         Usage::Check =>
-            "maxband check ARTERY CERT                     check what a certificate claims\n",
+            "maxband check STREET CERT                     check what a certificate claims\n",
         Usage::Bands =>
-            "maxband bands ARTERY TIMING                   measure the widest bands on a timing's offsets\n",
+            "maxband bands STREET TIMING                   measure the widest bands on a timing's offsets\n",
         Usage::Round =>
-            "maxband round ARTERY CERT PLAN                put a plan in whole seconds of a certified timing\n",
+            "maxband round STREET CERT NEW                 put a plan in whole seconds of a certified timing\n",
         Usage::RoundFrom => {
-            "maxband round-from ARTERY CERT OTHER PLAN     put such a plan of another timing, held against a certificate\n"
+            "maxband round-from STREET CERT OTHER NEW      put such a plan of another timing, held against a certificate\n"
         }
         Usage::Half =>
-            "maxband half ARTERY TIMING NEW                put the half-cycle plan with the widest equal bands\n",
+            "maxband half STREET TIMING NEW                put the half-cycle plan with the widest equal bands\n",
         Usage::TimingOf =>
-            "maxband timing ARTERY PLAN TIMING             put the timing of a plan typed in seconds\n",
+            "maxband timing STREET PLAN NEW                put the timing of a plan typed in seconds\n",
         Usage::Draw =>
-            "maxband draw ARTERY FILE SVG [TITLE]          put a picture of the timing of a timing or certificate\n",
+            "maxband draw STREET FILE SVG [TITLE]          put a picture of the timing of a timing or certificate\n",
         Usage::Renew =>
             "maxband renew CERT NEW                        put a certificate in the second format\n",
         Usage::Links =>
-            "maxband links ARTERY CERT [WORK]              search for best bands of each link, and put their certificate\n",
+            "maxband links STREET CERT [WORK]              search for best bands of each link, and put their certificate\n",
         Usage::CheckLinks =>
-            "maxband check-links ARTERY CERT               check what a certificate of links claims\n",
-        Usage::Hold => "maxband hold ARTERY TIMING                    test a timing tick by tick\n",
+            "maxband check-links STREET CERT               check what a certificate of links claims\n",
+        Usage::Hold => "maxband hold STREET TIMING                    test a timing tick by tick\n",
         Usage::Show =>
-            "maxband show ARTERY                           write the canonical description\n",
+            "maxband show STREET                           write the canonical description\n",
         Usage::Make =>
             "maxband make SIGNALS SEED                     write the description of an artery from a seed\n",
         Usage::Trial =>
             "maxband trial SIGNALS SEED WORK               search such an artery, and check the certificate\n",
         Usage::Sweep =>
-            "maxband sweep ARTERY TABLE WORK CYCLE ..      search at each cycle, and put a table\n",
+            "maxband sweep STREET TABLE WORK CYCLE ..      search at each cycle, and put a table\n",
         Usage::Help => "maxband --help                                write these lines\n",
         Usage::Version =>
             "maxband --version                             write the versions of the program and of what it reads\n",

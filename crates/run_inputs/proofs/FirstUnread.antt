@@ -18,7 +18,12 @@ more_stops i j k place held before after c lines (inr (v, r, inr h)) = absurd h.
 pub second_unread : {F : Type 0} {files : Ghosts F} {before mid now : F} {i j : Input} {v : Value i.reader} (end : Unread)
     → WereRead files before mid (i ∷ []) (v, tt) → LeavesFiles files before mid → WasUnread files mid now (j ∷ []) 2 end → WasUnread files before now (i ∷ j ∷ []) 1 end
 second_unread {files = files} {before = before} {mid = mid} {now = now} {i = i} {j = j} {v = v} (stop.Told a) r kept u = record {
-  told = inr (v, r.read.0, stops_later (j ∷ []) 2 (files.holds before) (files.holds mid) (files.read_faults before) (files.read_faults mid) (files.read_faults now) a.cause a.lines.items kept.holds r.counts u.told);
+  told = inr (
+    v,
+    r.read.0,
+    stops_later (j ∷ []) 2 (files.holds before) (files.holds mid) (files.read_faults before) (files.read_faults mid)
+        (files.read_faults now) a.cause a.lines.items kept.holds r.counts u.told,
+  );
   no_put = u.no_put;
   memory = tt;
 }

@@ -88,8 +88,13 @@ command_limits (word ∷ first ∷ second ∷ []) =
 command_limits (word ∷ first ∷ second ∷ third ∷ []) =
     usage_limits word (three_more first second third) (
       solve_limits first second (limit_of third) (some_limit third),
-      (links_limits first second (limit_of third) (some_limit third), (tt, (tt, (tt, (tt, (trial_limits (signals_of first) (seed_of second) (limit_of third) (in_limits 2 16 first) (some_limit third), tt)))))),
+      (
+        links_limits first second (limit_of third) (some_limit third),
+        (tt, (tt, (tt, (tt, (trial_limits (signals_of first) (seed_of second) (limit_of third) (in_limits 2 16 first) (some_limit third), tt))))),
+      ),
     )
 command_limits (word ∷ first ∷ second ∷ third ∷ fourth ∷ more) =
-    usage_limits word (any_more first second third (fourth ∷ more))
-    (sweep_limits first second (fourth ∷ more) (are_cycles (fourth ∷ more)) (limit_of third) (cycles_spelled (fourth ∷ more)) (some_limit third), (from_limits first second third (fourth ∷ more), (draw_limits first second third (fourth ∷ more), tt)))
+    usage_limits word (any_more first second third (fourth ∷ more)) (
+      sweep_limits first second (fourth ∷ more) (are_cycles (fourth ∷ more)) (limit_of third) (cycles_spelled (fourth ∷ more)) (some_limit third),
+      (from_limits first second third (fourth ∷ more), (draw_limits first second third (fourth ∷ more), tt)),
+    )

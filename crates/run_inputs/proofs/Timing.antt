@@ -41,10 +41,12 @@ module _ (bytes : List ℕ) where
   bad_certificate (cause.BadText b) l e h = (second_read e ∙ ap timing_in h.0, h.1)
   bad_certificate c l e h = absurd h
 
-  pub timing_refused : (end : Unread) → is_timing bytes ≡ true → IfOk (end_of end) (λ a. IsBadText timing_of bytes a.cause a.lines.items) → IfOk (end_of end) (λ a. IsBadText timed_of bytes a.cause a.lines.items)
+  pub timing_refused : (end : Unread) → is_timing bytes ≡ true → IfOk (end_of end) (λ a. IsBadText timing_of bytes a.cause a.lines.items)
+      → IfOk (end_of end) (λ a. IsBadText timed_of bytes a.cause a.lines.items)
   timing_refused (stop.Told a) e h = bad_timing a.cause a.lines.items e h
   timing_refused stop.Memory e h = tt
 
-  pub certificate_refused : (end : Unread) → is_timing bytes ≡ false → IfOk (end_of end) (λ a. IsBadText certificate_of bytes a.cause a.lines.items) → IfOk (end_of end) (λ a. IsBadText timed_of bytes a.cause a.lines.items)
+  pub certificate_refused : (end : Unread) → is_timing bytes ≡ false → IfOk (end_of end) (λ a. IsBadText certificate_of bytes a.cause a.lines.items)
+      → IfOk (end_of end) (λ a. IsBadText timed_of bytes a.cause a.lines.items)
   certificate_refused (stop.Told a) e h = bad_certificate a.cause a.lines.items e h
   certificate_refused stop.Memory e h = tt

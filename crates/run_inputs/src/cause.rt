@@ -1,6 +1,6 @@
 //! How a run ends.
 
-ghost use Rattle.std.specs.Prelude.{◌≡◌, ◌↔◌, IsTrue};
+ghost use Rattle.std.specs.Prelude.{◌≡◌};
 ghost use Rattle.run_inputs.specs.Status.{number_of};
 
 use artery_model::Refusal;
@@ -15,21 +15,21 @@ use time_space::Failing;
 /// The number of the status for words that the system doesn't give as text. It is none of a cause: no run ends with it.
 pub const NO_WORDS: u8 = 12;
 
-/// Why a run ends with its status. `file` is 1 or 2: the first or the second file that the command
-/// reads.
+/// Why a run ends with its status. `file` is 1, 2 or 3: the first, the second or the third file that the command reads.
 #[derive(Drop)]
 pub enum Cause {
     /// The work was done. For `solve`, `links` and `trial`: the timing that was found is a best one.
     Done,
     /// There is no good timing, or of `links` no good link timing, on any grid.
     NoTiming,
-    /// The search stopped, by work or because a number left 128 bits: no good timing is worth more than the bound that was found.
+    /// The search stopped, by work or because a number left its width: no good timing, or of `links` no good link timing, is worth more
+    /// than the bound that was found.
     Stopped(Stop),
-    /// The first file doesn't describe an artery: what is wrong first, and where.
+    /// The first file doesn't describe an artery, or of `timing` the second no plan of it: what is wrong first, and where.
     Refused(Refusal),
-    /// The file that the command reads as a timing or a certificate isn't the text of one: its first bad line.
+    /// A file that the command reads as a timing, or as a certificate of either kind, isn't the text of one: its first bad line.
     BadText(BadText),
-    /// The timing breaks a rule: the first that it breaks.
+    /// The timing breaks a rule that the command asks of it: the first of these that it breaks.
     Fails(Failing),
     /// The certificate is refused: the first refusal, which is never want of memory.
     Rejected(Reject),
@@ -39,15 +39,17 @@ pub enum Cause {
     Words,
     /// A read of this file failed, and was counted.
     ReadFault { file: u8 },
-    /// The put of the file that the command puts (a certificate, a plan or a table), or a write of its lines, failed and was counted.
+    /// The put of the file that the command puts (a certificate, a timing, a picture or a table), or a write of its lines, failed and was
+    /// counted.
     WriteFault,
     /// Memory was wanting.
     Memory,
     /// This file has more bytes than its limit.
     TooLong { file: u8 },
-    /// No plan in whole seconds is made of the accepted certificate: the first reason.
+    /// No plan in whole seconds is made, of the accepted certificate's timing or of another one: the first reason. Of `draw`: the
+    /// certificate has no timing.
     Unplanned(PlanEnd),
-    /// The timing has no half-cycle plan: the first reason.
+    /// The timing has no half-cycle plan: the first reason. Of `timing`: the typed plan has a number of too many ticks for a timing.
     Unmatched(HalfEnd),
 }
 
@@ -76,28 +78,6 @@ impl Cause {
             Cause::TooLong { .. } => 9,
             Cause::Unplanned(_) => 10,
             Cause::Unmatched(_) => 11,
-        }
-    }
-    /// Whether memory was wanting.
-    pub fn is_memory(&self) -> bool
-        ensures { IsTrue result ↔ self.now ≡ Cause.Memory }
-    {
-        match self {
-            Cause::Memory => true,
-            Cause::Done
-            | Cause::NoTiming
-            | Cause::Stopped(_)
-            | Cause::Refused(_)
-            | Cause::BadText(_)
-            | Cause::Fails(_)
-            | Cause::Rejected(_)
-            | Cause::LinkRejected(_)
-            | Cause::Words
-            | Cause::ReadFault { .. }
-            | Cause::WriteFault
-            | Cause::TooLong { .. }
-            | Cause::Unplanned(_)
-            | Cause::Unmatched(_) => false,
         }
     }
 }

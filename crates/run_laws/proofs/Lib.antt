@@ -9,6 +9,10 @@ pub mod Says
 pub mod Unlimited
 pub mod PlanHeld
 pub mod Found
+pub mod Kept
+pub mod Reports
+pub mod InSeconds
 pub mod PlansSay
+pub mod TimingBounded
 pub mod Statuses
 pub mod Helping

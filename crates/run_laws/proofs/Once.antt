@@ -1,4 +1,6 @@
 -- What a command finds of the same values is one thing, or a verdict of a search.
+use Rattle.std.specs.Prelude.{option_map}
+use Rattle.plan_text.specs.Spelling.{timing_text}
 use Rattle.std.proofs.Common.{arith, pos, ◌*ℤ◌, ◌++◌, ◌*◌, ◌⊎◌, ap₂, ◌≤◌, ◌≡◌, ℕ, Bool, true, false, List, [], ◌∷◌, Option, Some, None, inl, inr, refl, sym, ◌∙◌, ap, subst}
 use Rattle.progression.specs.Street.{Street, count}
 use Rattle.progression.specs.TimingRecord.{TimingRecord}
@@ -8,7 +10,7 @@ use Rattle.progression.specs.declared.parts.Dir.TheVariants.{Outbound, Inbound}
 use Rattle.artery_model.specs.Valid.{IsValid}
 use Rattle.time_space.specs.declared.failing.Failing.{Failing}
 use Rattle.band_measure.specs.Pairs.{FinerPairs}
-use Rattle.band_measure.specs.Widest.{OneWidest}
+use Rattle.band_measure.specs.Widest.{IsWidestBand, OneWidest}
 use Rattle.band_measure.specs.declared.pair.Widest.{Widest}
 use Rattle.half_integer.specs.Answers.{OneEnd}
 use Rattle.certificate_model.specs.Warrants.{Warrant}
@@ -21,24 +23,25 @@ use Rattle.branch_and_bound.specs.declared.found.Verdict.TheVariants.{Best, NoTi
 use Rattle.branch_tree.specs.declared.site.SitePart.{SitePart}
 use Rattle.workload_maker.specs.Made.{made_street}
 use Rattle.artery_model.specs.Faults.{fault_of}
-use Rattle.diagram_print.specs.Measures.{weighted_line}
 use Rattle.half_integer.specs.declared.end.HalfEnd.TheVariants as half_end
 use Rattle.description_reader.specs.Typed.{Typed}
 use Rattle.typed_plan.specs.Counts.{count_fault}
 use Rattle.typed_plan.specs.Grid.{too_fine}
 use Rattle.typed_plan.specs.Ends.{OneTiming}
+use Rattle.typed_plan.specs.declared.timing.Measured.{Measured}
 use Rattle.run_inputs.specs.Lines.{refused_line}
 use Rattle.run_commands.specs.Lines.{fails_line}
 use Rattle.run_inputs.specs.Command.{Request, Hold, Show, Check, CheckLinks, Solve, Links, Renew, Bands, Round, RoundFrom, Half, TimingOf, Draw, Help, Version, Make, Trial, Sweep, shape}
+use Rattle.run_inputs.specs.Puts.{NamedBytes, put_of}
 use Rattle.run_inputs.specs.Reading.{Input, Value, Values}
 use Rattle.run_commands.specs.Searched.{cause_of}
-use Rattle.run_commands.specs.Hold.{HoldFinds}
+use Rattle.run_commands.specs.Hold.{HoldFinds, IsJudged, verdict_line}
 use Rattle.run_commands.specs.Show.{Shows}
 use Rattle.run_commands.specs.Sought.{Sought, whole_bands, bands_of_links}
 use Rattle.run_commands.specs.Checked.{Checked, whole_checked, links_checked}
 use Rattle.run_commands.specs.Check.{Rejects, Checks}
 use Rattle.run_inputs.specs.Status.{IsReached}
-use Rattle.run_commands.specs.Bands.{IsWidestBand, widest_line, BreaksBase, BandsFinds}
+use Rattle.run_commands.specs.Bands.{widest_line, BreaksBase, BandsFinds}
 use Rattle.second_plan.specs.Planned.{IsAnswer}
 use Rattle.second_plan.specs.Ends as second
 use Rattle.second_plan.specs.Ends.{Ends, PlanOrEnd, OnePlan}
@@ -49,10 +52,10 @@ use Rattle.progression.specs.Good.{Good}
 use Rattle.rational_theory.specs.Rational.{ℚ}
 use Rattle.run_commands.specs.Round.{plan_lines, unplanned_line, IsCertified, IsRounded, IsUnfit, Unplans, RoundFinds, RoundFromFinds}
 use Rattle.run_commands.specs.Half.{end_line, HalfFinds}
-use Rattle.run_commands.specs.Typed.{WritesTiming, TypedFinds}
-use Rattle.run_commands.specs.Draw.{IsBroken, drawn_lines, DrawFinds}
+use Rattle.run_commands.specs.Typed.{measured_lines, WritesTiming, TypedFinds}
+use Rattle.run_commands.specs.Draw.{drawn_lines, DrawFinds}
 use Rattle.maxband_run.specs.Run.{Finds}
-use Rattle.run_laws.specs.Laws.{IsVerdict, Agree}
+use Rattle.run_laws.specs.Laws.{IsVerdict, SamePut, Same, Agree}
 use Rattle.run_inputs.specs.declared.cause.Cause.{Cause}
 use Rattle.run_inputs.specs.declared.cause.Cause.TheVariants as cause
 use Rattle.run_laws.proofs.Readers.{same_refusal}
@@ -154,13 +157,15 @@ module _ (a : Street) (w : Warrant) (o : Option TimingRecord) where
   unplans_unfit rules e u f h g k = fails_apart rules h.0 u f h.2.timing_is g h.2.good k
 
 module _ (ends : second.OneEnd) (apart : PlanOrEnd) (one : OnePlan) (a : Street) (w : Warrant) (o : Option TimingRecord) where
-  plans_once : (x y s u : List ℕ) → IsRounded a w o x s → IsRounded a w o y u → x ≡ y
+  plans_once : (x y s u : List ℕ) → IsRounded a w o x s → IsRounded a w o y u → (x ≡ y) × (s ≡ u)
   plans_once x y s u h k =
       let t = same_value o h.timing k.timing h.certified.timing_is k.certified.timing_is in
       let q = same_value (limit_of w.claim) h.claim k.claim h.certified.claim_is k.certified.claim_is in
       let other = subst (λ c. IsAnswer a c h.timing k.plan) q (subst (λ p. IsAnswer a k.claim p k.plan) t k.answer) in
-      let e = one a h.claim h.timing h.plan k.plan h.certified.valid h.certified.good h.answer other in
-      h.lines_are ∙ same_lines a h.plan.seconds k.plan.seconds h.plan.offsets.items k.plan.offsets.items h.plan.timing k.plan.timing h.plan.loss k.plan.loss e.0 e.1 e.2 e.3 ∙ sym k.lines_are
+      let e = one a h.claim h.timing h.plan k.plan h.certified.valid h.certified.good h.answer other in (
+        h.lines_are ∙ same_lines a h.plan.seconds k.plan.seconds h.plan.offsets.items k.plan.offsets.items h.plan.timing k.plan.timing h.plan.loss k.plan.loss e.0 e.1 e.2 e.3 ∙ sym k.lines_are,
+        h.written ∙ ap timing_text e.2 ∙ sym k.written,
+      )
 
   -- the timing and the number of another certificate's end
   ends_here : (t u : TimingRecord) (x y : ℚ) (e : PlanEnd) → IsCertified a w o t x → IsCertified a w o u y → Ends a y u e → Ends a x t e
@@ -178,20 +183,20 @@ module _ (ends : second.OneEnd) (apart : PlanOrEnd) (one : OnePlan) (a : Street)
   unplans_once e f h k = ends a h.1 h.0 e f h.2.valid h.2.good h.3 (ends_here h.0 k.0 h.1 k.1 f h.2 k.2 k.3)
 
   module _ (one_first : OneFirst) (rules : FailsRulesOut) (refused : RefusedIsNotAccepted) (once : OneFirstRefusal) where
-    unfit_once : (f g : Failing) (x y : List ℕ) (s u : Option (List ℕ)) → IsUnfit a w o f x s → IsUnfit a w o g y u → (cause.Fails f ≡ cause.Fails g) × (x ≡ y)
+    unfit_once : (f g : Failing) (x y : List ℕ) (s u : Option (List ℕ)) → IsUnfit a w o f x s → IsUnfit a w o g y u → (cause.Fails f ≡ cause.Fails g) × (x ≡ y) × (s ≡ u)
     unfit_once f g x y s u h k =
         let first = subst (λ p. IsFirstFailing a p g) (same_value o h.timing k.timing h.timing_is k.timing_is) k.first in
         let e = one_first a h.timing f g h.first first in
-        (ap cause.Fails e, h.lines_are ∙ ap fails_line e ∙ sym k.lines_are)
+        (ap cause.Fails e, h.lines_are ∙ ap fails_line e ∙ sym k.lines_are, h.no_put ∙ sym k.no_put)
 
-    from_once : (c d : Cause) (x y : List ℕ) (s u : Option (List ℕ)) → RoundFromFinds a w o c x s → RoundFromFinds a w o d y u → (c ≡ d) × (x ≡ y)
-    from_once cause.Done cause.Done x y s u h k = (refl, plans_once x y h.0 k.0 h.2 k.2)
+    from_once : (c d : Cause) (x y : List ℕ) (s u : Option (List ℕ)) → RoundFromFinds a w o c x s → RoundFromFinds a w o d y u → (c ≡ d) × (x ≡ y) × (s ≡ u)
+    from_once cause.Done cause.Done x y s u h k = let e = plans_once x y h.0 k.0 h.2 k.2 in (refl, e.0, h.1 ∙ ap Some e.1 ∙ sym k.1)
     from_once cause.Done (cause.Rejected r) x y s u h k = absurd (refused a w k.0.reject k.0.first k.0.kept h.2.certified.accepted)
     from_once cause.Done (cause.Fails f) x y s u h k = absurd (fails_apart a w o rules h.2.timing k.timing f h.2.certified.timing_is k.timing_is h.2.certified.good k.first)
     from_once cause.Done (cause.Unplanned e) x y s u h k = absurd (plan_apart e x h.0 h.2 k.first)
     from_once cause.Done d x y s u h k = absurd k
     from_once (cause.Rejected r) cause.Done x y s u h k = absurd (refused a w h.0.reject h.0.first h.0.kept k.2.certified.accepted)
-    from_once (cause.Rejected r) (cause.Rejected q) x y s u h k = rejects_once whole_bands whole_checked once a w (cause.Rejected r) (cause.Rejected q) x y h.0 k.0
+    from_once (cause.Rejected r) (cause.Rejected q) x y s u h k = let e = rejects_once whole_bands whole_checked once a w (cause.Rejected r) (cause.Rejected q) x y h.0 k.0 in (e.0, e.1, h.1 ∙ sym k.1)
     from_once (cause.Rejected r) (cause.Fails f) x y s u h k = absurd (refused a w h.0.reject h.0.first h.0.kept k.accepted)
     from_once (cause.Rejected r) (cause.Unplanned e) x y s u h k = absurd (refused a w h.0.reject h.0.first h.0.kept (unplanned_accepted a w o e k.first))
     from_once (cause.Rejected r) d x y s u h k = absurd k
@@ -204,113 +209,150 @@ module _ (ends : second.OneEnd) (apart : PlanOrEnd) (one : OnePlan) (a : Street)
     from_once (cause.Unplanned e) (cause.Rejected r) x y s u h k = absurd (refused a w k.0.reject k.0.first k.0.kept (unplanned_accepted a w o e h.first))
     from_once (cause.Unplanned e) (cause.Fails f) x y s u h k = absurd (unplans_unfit a w o rules e k.timing f h.first k.timing_is k.first)
     from_once (cause.Unplanned e) (cause.Unplanned f) x y s u h k = let same = unplans_once e f h.first k.first in
-        (ap cause.Unplanned same, h.lines_are ∙ ap unplanned_line same ∙ sym k.lines_are)
+        (ap cause.Unplanned same, h.lines_are ∙ ap unplanned_line same ∙ sym k.lines_are, h.no_put ∙ sym k.no_put)
     from_once (cause.Unplanned e) d x y s u h k = absurd k
     from_once c d x y s u h k = absurd h
 
 -- what is found of the certificate's own timing is found of it as of any
-own_from : (a : Street) (w : Warrant) (c : Cause) (l : List ℕ) (bytes : Option (List ℕ)) → RoundFinds a w c l bytes → RoundFromFinds a w w.timing c l bytes
+pub own_from : (a : Street) (w : Warrant) (c : Cause) (l : List ℕ) (bytes : Option (List ℕ)) → RoundFinds a w c l bytes → RoundFromFinds a w w.timing c l bytes
 own_from a w cause.Done l bytes h = h
 own_from a w (cause.Rejected r) l bytes h = h
 own_from a w (cause.Unplanned e) l bytes h = h
 own_from a w c l bytes h = absurd h
 
 -- of several half-cycle plans that are as wide any may be told
-half_once : OneFirst → OneEnd → (a : Street) (t : TimingRecord) (c d : Cause) (x y : List ℕ) (s u : Option (List ℕ)) → HalfFinds a t c x s → HalfFinds a t d y u → ((c ≡ d) × (x ≡ y)) ⊎ (IsVerdict c × IsVerdict d)
+half_once : OneFirst → OneEnd → (a : Street) (t : TimingRecord) (c d : Cause) (x y : List ℕ) (s u : Option (List ℕ)) → HalfFinds a t c x s → HalfFinds a t d y u
+    → ((c ≡ d) × (x ≡ y) × (s ≡ u)) ⊎ (IsVerdict c × IsVerdict d)
 half_once one_first ends a t cause.Done cause.Done x y s u h k = inr (tt, tt)
 half_once one_first ends a t cause.Done (cause.Fails f) x y s u h k = absurd (k.0.not_base h.base)
 half_once one_first ends a t cause.Done (cause.Unmatched e) x y s u h k = absurd (ends.not_ready a t e k.first h.ready)
 half_once one_first ends a t cause.Done d x y s u h k = absurd k
 half_once one_first ends a t (cause.Fails f) cause.Done x y s u h k = absurd (h.0.not_base k.base)
-half_once one_first ends a t (cause.Fails f) (cause.Fails g) x y s u h k = inl (breaks_once one_first a t f g x y h.0 k.0)
+half_once one_first ends a t (cause.Fails f) (cause.Fails g) x y s u h k = let e = breaks_once one_first a t f g x y h.0 k.0 in inl (e.0, e.1, h.1 ∙ sym k.1)
 half_once one_first ends a t (cause.Fails f) (cause.Unmatched e) x y s u h k = absurd (h.0.not_base k.base)
 half_once one_first ends a t (cause.Fails f) d x y s u h k = absurd k
 half_once one_first ends a t (cause.Unmatched e) cause.Done x y s u h k = absurd (ends.not_ready a t e h.first k.ready)
 half_once one_first ends a t (cause.Unmatched e) (cause.Fails f) x y s u h k = absurd (k.0.not_base h.base)
 half_once one_first ends a t (cause.Unmatched e) (cause.Unmatched f) x y s u h k =
     let same = ends.once a t e f h.first k.first in
-    inl (ap cause.Unmatched same, h.lines_are ∙ ap end_line same ∙ sym k.lines_are)
+    inl (ap cause.Unmatched same, h.lines_are ∙ ap end_line same ∙ sym k.lines_are, h.no_put ∙ sym k.no_put)
 half_once one_first ends a t (cause.Unmatched e) d x y s u h k = absurd k
 half_once one_first ends a t c d x y s u h k = absurd h
 
 -- ---- a typed plan
-writes_once : OneFirst → OneWidest → FinerPairs → (a : Street) (t : TimingRecord) (c d : Cause) (x y : List ℕ) (s u : Option (List ℕ)) → WritesTiming a t c x s → WritesTiming a t d y u → (c ≡ d) × (x ≡ y)
-writes_once one_first once finer a t cause.Done cause.Done x y s u h k =
-    let e = bands_once one_first once finer a t cause.Done cause.Done h.2.bands k.2.bands h.2.measured k.2.measured in
-    (refl, h.2.lines_are ∙ ap (λ l. l ++ weighted_line a t) e.1 ∙ sym k.2.lines_are)
-writes_once one_first once finer a t cause.Done (cause.Fails f) x y s u h k = absurd (k.0.not_base h.2.measured.base)
-writes_once one_first once finer a t cause.Done d x y s u h k = absurd k
-writes_once one_first once finer a t (cause.Fails f) cause.Done x y s u h k = absurd (h.0.not_base k.2.measured.base)
-writes_once one_first once finer a t (cause.Fails f) (cause.Fails g) x y s u h k = breaks_once one_first a t f g x y h.0 k.0
-writes_once one_first once finer a t (cause.Fails f) d x y s u h k = absurd k
-writes_once one_first once finer a t c d x y s u h k = absurd h
+judged_once : OneFirst → FailsRulesOut → (a : Street) (t : TimingRecord) (f g : Option Failing) → IsJudged a t f → IsJudged a t g → f ≡ g
+judged_once one_first out a t None None h k = refl
+judged_once one_first out a t None (Some g) h k = absurd (out a t g k.fails h)
+judged_once one_first out a t (Some f) None h k = absurd (out a t f h.fails k)
+judged_once one_first out a t (Some f) (Some g) h k = ap Some (one_first a t f g h k)
 
-module _ (one : OneTiming) (one_first : OneFirst) (once : OneWidest) (finer : FinerPairs) (a : Street) (p : Typed) where
-  typed_once : (c d : Cause) (x y : List ℕ) (s u : Option (List ℕ)) → TypedFinds a p c x s → TypedFinds a p d y u → (c ≡ d) × (x ≡ y)
+writes_once : OneFirst → FailsRulesOut → (a : Street) (m : Measured) (c d : Cause) (x y : List ℕ) (s u : Option (List ℕ)) → WritesTiming a m c x s → WritesTiming a m d y u
+    → (c ≡ d) × (x ≡ y) × (s ≡ u)
+writes_once one_first out a m c d x y s u h k =
+    let e = judged_once one_first out a m.timing h.1.2.broken k.1.2.broken h.1.2.judged k.1.2.judged in (
+      h.0 ∙ sym k.0,
+      h.1.2.lines_are ∙ ap (λ f. measured_lines a m ++ verdict_line f) e ∙ sym k.1.2.lines_are,
+      h.1.1 ∙ ap Some (h.1.2.written ∙ sym k.1.2.written) ∙ sym k.1.1,
+    )
+
+module _ (one : OneTiming) (one_first : OneFirst) (out : FailsRulesOut) (a : Street) (p : Typed) where
+  typed_once : (c d : Cause) (x y : List ℕ) (s u : Option (List ℕ)) → TypedFinds a p c x s → TypedFinds a p d y u → (c ≡ d) × (x ≡ y) × (s ≡ u)
   typed_once c d x y s u (inl h) (inl k) =
-      let e = one a p k.timing h.timing h.valid k.timing_is h.timing_is in
-      writes_once one_first once finer a h.timing c d x y s u h.finds (subst (λ (t : TimingRecord). WritesTiming a t d y u) e k.finds)
-  typed_once c d x y s u (inl h) (inr (inl k)) = absurd (no_value (count_fault a p) (fault_of k.refusal) k.first h.timing_is.counts)
-  typed_once c d x y s u (inl h) (inr (inr k)) = absurd (no_value (too_fine a p) k.ticks k.first.1 h.timing_is.fine)
-  typed_once c d x y s u (inr (inl h)) (inl k) = absurd (no_value (count_fault a p) (fault_of h.refusal) h.first k.timing_is.counts)
+      let e = one a p k.made h.made h.valid k.made_is h.made_is in
+      writes_once one_first out a h.made c d x y s u h.finds (subst (λ (m : Measured). WritesTiming a m d y u) e k.finds)
+  typed_once c d x y s u (inl h) (inr (inl k)) = absurd (no_value (count_fault a p) (fault_of k.refusal) k.first h.made_is.counts)
+  typed_once c d x y s u (inl h) (inr (inr k)) = absurd (no_value (too_fine a p) k.ticks k.first.1 h.made_is.fine)
+  typed_once c d x y s u (inr (inl h)) (inl k) = absurd (no_value (count_fault a p) (fault_of h.refusal) h.first k.made_is.counts)
   typed_once c d x y s u (inr (inl h)) (inr (inl k)) =
       let e = same_refusal h.refusal k.refusal (sym (same_value (count_fault a p) (fault_of h.refusal) (fault_of k.refusal) h.first k.first)) in
-      (h.cause_is ∙ ap cause.Refused e ∙ sym k.cause_is, h.lines_are ∙ ap refused_line e ∙ sym k.lines_are)
+      (h.cause_is ∙ ap cause.Refused e ∙ sym k.cause_is, h.lines_are ∙ ap refused_line e ∙ sym k.lines_are, h.no_put ∙ sym k.no_put)
   typed_once c d x y s u (inr (inl h)) (inr (inr k)) = absurd (no_value (count_fault a p) (fault_of h.refusal) h.first k.first.0)
-  typed_once c d x y s u (inr (inr h)) (inl k) = absurd (no_value (too_fine a p) h.ticks h.first.1 k.timing_is.fine)
+  typed_once c d x y s u (inr (inr h)) (inl k) = absurd (no_value (too_fine a p) h.ticks h.first.1 k.made_is.fine)
   typed_once c d x y s u (inr (inr h)) (inr (inl k)) = absurd (no_value (count_fault a p) (fault_of k.refusal) k.first h.first.0)
   typed_once c d x y s u (inr (inr h)) (inr (inr k)) =
       let e = sym (same_value (too_fine a p) h.ticks k.ticks h.first.1 k.first.1) in
-      (h.cause_is ∙ ap (λ n. cause.Unmatched (half_end.TooFine n)) e ∙ sym k.cause_is, h.lines_are ∙ ap (λ n. end_line (half_end.TooFine n)) e ∙ sym k.lines_are)
+      (h.cause_is ∙ ap (λ n. cause.Unmatched (half_end.TooFine n)) e ∙ sym k.cause_is, h.lines_are ∙ ap (λ n. end_line (half_end.TooFine n)) e ∙ sym k.lines_are, h.no_put ∙ sym k.no_put)
 
-broken_once : OneFirst → FailsRulesOut → (a : Street) (t : TimingRecord) (x y : Option Failing) → IsBroken a t x → IsBroken a t y → x ≡ y
-broken_once one_first rules a t None None h k = refl
-broken_once one_first rules a t None (Some g) h k = absurd (rules a t g k.fails h)
-broken_once one_first rules a t (Some f) None h k = absurd (rules a t f h.fails k)
-broken_once one_first rules a t (Some f) (Some g) h k = ap Some (one_first a t f g h k)
-
-draw_once : OneFirst → FailsRulesOut → (a : Street) (o : Option TimingRecord) (title : Option (List ℕ)) (c d : Cause) (x y : List ℕ) (s u : Option (List ℕ)) → DrawFinds a o title c x s → DrawFinds a o title d y u → (c ≡ d) × (x ≡ y)
-draw_once one_first rules a None title c d x y s u h k = (h.0 ∙ sym k.0, h.1 ∙ sym k.1)
-draw_once one_first rules a (Some t) title cause.Done cause.Done x y s u h k =
-    (refl, h.2.lines_are ∙ (ap drawn_lines (broken_once one_first rules a t h.2.broken k.2.broken h.2.broken_is k.2.broken_is) ∙ sym k.2.lines_are))
+draw_once : OneFirst → FailsRulesOut → (a : Street) (o : Option TimingRecord) (title : Option (List ℕ)) (c d : Cause) (x y : List ℕ) (s u : Option (List ℕ))
+    → DrawFinds a o title c x s → DrawFinds a o title d y u → (c ≡ d) × (x ≡ y) × (s ≡ u)
+draw_once one_first rules a None title c d x y s u h k = (h.0 ∙ sym k.0, h.1 ∙ sym k.1, h.2 ∙ sym k.2)
+draw_once one_first rules a (Some t) title cause.Done cause.Done x y s u h k = (
+  refl,
+  h.2.lines_are ∙ (ap drawn_lines (judged_once one_first rules a t h.2.broken k.2.broken h.2.judged k.2.judged) ∙ sym k.2.lines_are),
+  h.1 ∙ ap Some (h.2.text_is ∙ sym k.2.text_is) ∙ sym k.1,
+)
 draw_once one_first rules a (Some t) title cause.Done (cause.Fails f) x y s u h k = absurd (k.1.fails h.2.shape)
 draw_once one_first rules a (Some t) title cause.Done d x y s u h k = absurd k
 draw_once one_first rules a (Some t) title (cause.Fails f) cause.Done x y s u h k = absurd (h.1.fails k.2.shape)
-draw_once one_first rules a (Some t) title (cause.Fails f) (cause.Fails g) x y s u h k = (ap cause.Fails (h.0 ∙ sym k.0), h.2 ∙ sym k.2)
+draw_once one_first rules a (Some t) title (cause.Fails f) (cause.Fails g) x y s u h k = (ap cause.Fails (h.0 ∙ sym k.0), h.2 ∙ sym k.2, h.3 ∙ sym k.3)
 draw_once one_first rules a (Some t) title (cause.Fails f) d x y s u h k = absurd k
 draw_once one_first rules a (Some t) title c d x y s u h k = absurd h
+
+-- ---- what is put
+put_alike : (name : List ℕ) (s t : Option (List ℕ)) → s ≡ t → put_of (Some name) s ≡ put_of (Some name) t
+put_alike name s t e = ap (put_of (Some name)) e
+
+-- bytes are put into one file, whatever they are
+name_alike : (name : List ℕ) (s t : Option (List ℕ)) (x y : List ℕ) → s ≡ Some x → t ≡ Some y → option_map (λ b. b.name) (put_of (Some name) s) ≡ option_map (λ b. b.name) (put_of (Some name) t)
+name_alike name s t x y e f = ap (λ o. option_map (λ b. b.name) (put_of (Some name) o)) e ∙ sym (ap (λ o. option_map (λ b. b.name) (put_of (Some name) o)) f)
+
+pub put_same : (asked : Option Request) (p q : Option NamedBytes) → p ≡ q → SamePut asked p q
+put_same (Some (Sweep artery table limit cycles)) p q e = ap (option_map (λ b. b.name)) e
+put_same asked p q e = e
 
 -- ---- every command
 module _ (one_text : OneText) (one_first : OneFirst) (rules : FailsRulesOut) (apart : RefusedIsNotAccepted) (once : OneFirstRefusal) (widest : OneWidest) (finer : FinerPairs)
     (one_timing : OneTiming) (ends : OneEnd) (plan_ends : second.OneEnd) (plan_or : PlanOrEnd) (one_plan : OnePlan) (links_apart : LinkRefusedIsNotAccepted) (links_once : OneFirstLinkRefusal) where
+  -- of a command that puts nothing
+  told_once : (asked : Option Request) (c d : Cause) (x y : List ℕ) → SamePut asked None None → (c ≡ d) × (x ≡ y) → Same asked c x None d y None
+  told_once asked c d x y p e = record { cause = e.0; lines = e.1; put = p }
+
   pub finds_once : (asked : Option Request) (v : Values (shape asked).inputs) (c d : Cause) (x y : List ℕ) (s t : Option (List ℕ))
-      → Finds asked v c x s → Finds asked v d y t → Agree (shape asked).chooses (shape asked).inputs c x d y
-  finds_once None v c d x y s t h k = (h.0 ∙ sym k.0, h.1 ∙ sym k.1)
-  finds_once (Some (Hold artery timing)) v c d x y s t h k = hold_once one_first rules v.0 v.1.0 c d x y h k
-  finds_once (Some (Show artery)) v c d x y s t h k = show_once one_text v.0 c d x y h k
-  finds_once (Some (Check artery certificate)) v c d x y s t h k = checks_once whole_bands whole_checked once v.0 v.1.0 apart c d x y h k
-  finds_once (Some (CheckLinks artery certificate)) v c d x y s t h k = checks_once bands_of_links links_checked links_once v.0 v.1.0 links_apart c d x y h k
+      → Finds asked v c x s → Finds asked v d y t
+      → Agree (shape asked).chooses (shape asked).inputs (Same asked c x (put_of (shape asked).output s) d y (put_of (shape asked).output t)) (IsVerdict c × IsVerdict d)
+  finds_once None v c d x y s t h k = told_once None c d x y refl (h.0 ∙ sym k.0, h.1 ∙ sym k.1)
+  finds_once (Some (Hold artery timing)) v c d x y s t h k = told_once (Some (Hold artery timing)) c d x y refl (hold_once one_first rules v.0 v.1.0 c d x y h k)
+  finds_once (Some (Show artery)) v c d x y s t h k = told_once (Some (Show artery)) c d x y refl (show_once one_text v.0 c d x y h k)
+  finds_once (Some (Check artery certificate)) v c d x y s t h k =
+      told_once (Some (Check artery certificate)) c d x y refl (checks_once whole_bands whole_checked once v.0 v.1.0 apart c d x y h k)
+  finds_once (Some (CheckLinks artery certificate)) v c d x y s t h k =
+      told_once (Some (CheckLinks artery certificate)) c d x y refl (checks_once bands_of_links links_checked links_once v.0 v.1.0 links_apart c d x y h k)
   finds_once (Some (Solve artery certificate limit)) v c d x y s t h k =
       inr (verdict_cause c h.2.found.verdict h.2.cause_is, verdict_cause d k.2.found.verdict k.2.cause_is)
   finds_once (Some (Links artery certificate limit)) v c d x y s t h k =
       inr (verdict_cause c h.2.found.verdict h.2.cause_is, verdict_cause d k.2.found.verdict k.2.cause_is)
-  finds_once (Some (Renew certificate new)) v c d x y s t h k = (h.2.cause_is ∙ sym k.2.cause_is, h.2.lines_are ∙ sym k.2.lines_are)
-  finds_once (Some (Bands artery timing)) v c d x y s t h k = bands_once one_first widest finer v.0 v.1.0 c d x y h k
+  finds_once (Some (Renew certificate new)) v c d x y s t h k = record {
+    cause = h.2.cause_is ∙ sym k.2.cause_is;
+    lines = h.2.lines_are ∙ sym k.2.lines_are;
+    put = put_alike new s t (h.1 ∙ ap Some (h.2.text_is.written ∙ sym k.2.text_is.written) ∙ sym k.1);
+  }
+  finds_once (Some (Bands artery timing)) v c d x y s t h k = told_once (Some (Bands artery timing)) c d x y refl (bands_once one_first widest finer v.0 v.1.0 c d x y h k)
   finds_once (Some (Round artery certificate plan)) v c d x y s t h k =
-      from_once plan_ends plan_or one_plan v.0 v.1.0 v.1.0.timing one_first rules apart once c d x y s t (own_from v.0 v.1.0 c x s h) (own_from v.0 v.1.0 d y t k)
-  finds_once (Some (RoundFrom artery certificate other plan)) v c d x y s t h k = from_once plan_ends plan_or one_plan v.0 v.1.0 v.1.1.0 one_first rules apart once c d x y s t h k
-  finds_once (Some (Half artery timing new)) v c d x y s t h k = half_once one_first ends v.0 v.1.0 c d x y s t h k
-  finds_once (Some (TimingOf artery plan timing)) v c d x y s t h k = typed_once one_timing one_first widest finer v.0 v.1.0 c d x y s t h k
-  finds_once (Some (Draw artery timed drawing title)) v c d x y s t h k = draw_once one_first rules v.0 v.1.0 title c d x y s t h k
-  finds_once (Some Help) v c d x y s t h k = (h.0 ∙ sym k.0, h.1 ∙ sym k.1)
-  finds_once (Some Version) v c d x y s t h k = (h.0 ∙ sym k.0, h.1 ∙ sym k.1)
-  finds_once (Some (Make signals seed)) v c d x y s t h k = show_once one_text (made_street signals seed) c d x y h k
+      let e = from_once plan_ends plan_or one_plan v.0 v.1.0 v.1.0.timing one_first rules apart once c d x y s t (own_from v.0 v.1.0 c x s h) (own_from v.0 v.1.0 d y t k) in
+      record { cause = e.0; lines = e.1; put = put_alike plan s t e.2 }
+  finds_once (Some (RoundFrom artery certificate other plan)) v c d x y s t h k =
+      let e = from_once plan_ends plan_or one_plan v.0 v.1.0 v.1.1.0 one_first rules apart once c d x y s t h k in
+      record { cause = e.0; lines = e.1; put = put_alike plan s t e.2 }
+  finds_once (Some (Half artery timing new)) v c d x y s t h k = elim (half_once one_first ends v.0 v.1.0 c d x y s t h k) [
+    | inl e ↦ inl (record { cause = e.0; lines = e.1; put = put_alike new s t e.2 })
+    | inr e ↦ inr e
+  ]
+  finds_once (Some (TimingOf artery plan timing)) v c d x y s t h k =
+      let e = typed_once one_timing one_first rules v.0 v.1.0 c d x y s t h k in
+      record { cause = e.0; lines = e.1; put = put_alike timing s t e.2 }
+  finds_once (Some (Draw artery timed drawing title)) v c d x y s t h k =
+      let e = draw_once one_first rules v.0 v.1.0 title c d x y s t h k in
+      record { cause = e.0; lines = e.1; put = put_alike drawing s t e.2 }
+  finds_once (Some Help) v c d x y s t h k = told_once (Some Help) c d x y refl (h.0 ∙ sym k.0, h.1 ∙ sym k.1)
+  finds_once (Some Version) v c d x y s t h k = told_once (Some Version) c d x y refl (h.0 ∙ sym k.0, h.1 ∙ sym k.1)
+  finds_once (Some (Make signals seed)) v c d x y s t h k = told_once (Some (Make signals seed)) c d x y refl (show_once one_text (made_street signals seed) c d x y h k)
   finds_once (Some (Trial signals seed limit)) v c d x y s t h k =
       (verdict_cause c h.found.verdict h.cause_is, verdict_cause d k.found.verdict k.cause_is)
-  finds_once (Some (Sweep artery table limit cycles)) v c d x y s t h k = (h.2.cause_is ∙ sym k.2.cause_is, h.2.lines_are ∙ sym k.2.lines_are)
+  finds_once (Some (Sweep artery table limit cycles)) v c d x y s t h k =
+      record { cause = h.2.cause_is ∙ sym k.2.cause_is; lines = h.2.lines_are ∙ sym k.2.lines_are; put = name_alike table s t h.0 k.0 h.1 k.1 }
 
 -- files that stop the reading in one way
-pub stops_agree : (chooses : Bool) (is : List Input) (c d : Cause) (x y : List ℕ) → (is ≡ [] → ⊥) → (c ≡ d) × (x ≡ y) → Agree chooses is c x d y
-stops_agree false is c d x y n e = e
-stops_agree true [] c d x y n e = absurd (n refl)
-stops_agree true (i ∷ is) c d x y n e = inl e
+pub stops_agree : (chooses : Bool) (is : List Input) (same verdicts : Type 0) → (is ≡ [] → ⊥) → same → Agree chooses is same verdicts
+stops_agree false is same verdicts n e = e
+stops_agree true [] same verdicts n e = absurd (n refl)
+stops_agree true (i ∷ is) same verdicts n e = inl e

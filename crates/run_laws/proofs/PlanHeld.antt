@@ -18,37 +18,40 @@ use Rattle.plan_text.specs.Spelling.{timing_text}
 use Rattle.plan_text.specs.Reading.{timing_of}
 use Rattle.run_inputs.specs.Command.{Hold, Round, RoundFrom}
 use Rattle.maxband_run.specs.Outside.{Outside}
-use Rattle.run_inputs.specs.Reading.{Reads, Description, Timing}
+use Rattle.run_inputs.specs.Reading.{Reads, Description, Timing, Timed}
 use Rattle.run_commands.specs.Hold.{HoldFinds}
 use Rattle.maxband_run.specs.Run.{Ends}
-use Rattle.run_laws.specs.PlanLaws.{PutsPlan, RoundSays, RoundFromSays, PlanIsHeld}
+use Rattle.run_laws.specs.PlanLaws.{PutsPlan, PutsOwnPlan, PutsOtherPlan, RoundSays, RoundFromSays, PlanIsHeld}
 use Rattle.run_commands.specs.Round.{IsCertified, IsRounded}
 use Rattle.run_inputs.specs.declared.cause.Cause.{Cause}
 use Rattle.run_inputs.specs.declared.cause.Cause.TheVariants as cause
 use Rattle.run_laws.proofs.Complete.{Completes}
 use Rattle.run_laws.proofs.PutRead.{verdict_found, is_put, reads_put, finds_of}
-use Rattle.run_laws.proofs.Found.{zero_is, found_done, found_four}
+use Rattle.run_laws.proofs.Found.{Found, zero_is, found_done, found_four}
 use Rattle.run_commands.proofs.Planning.{claim_bounds}
 use Rattle.run_laws.proofs.PlansSay.{round_four, round_ten, from_four, from_ten}
+use Rattle.run_laws.proofs.InSeconds.{cycle_told, offset_told}
 use Rattle.run_laws.proofs.Readers.{OneReading}
 
 -- no good timing exceeds what an accepted certificate claims
-lost : (a : Street) (w : Warrant) (o : Option TimingRecord) (timing : TimingRecord) (claim band loss : ℚ) → IsCertified a w o timing claim → loss ≡ claim -ℚ band → (s : TimingRecord) → Good a s → weighted_band a s ≤ℚ (band +ℚ loss)
+lost : (a : Street) (w : Warrant) (o : Option TimingRecord) (timing : TimingRecord) (claim band loss : ℚ) → IsCertified a w o timing claim → loss ≡ claim -ℚ band
+    → (s : TimingRecord) → Good a s → weighted_band a s ≤ℚ (band +ℚ loss)
 lost a w o timing claim band loss c e s good =
     let below : weighted_band a s ≤ℚ claim = claim_bounds a w.claim w.timing claim c.claim_is (accepted_holds a w (street_of a c.valid) c.accepted) s good in
     let whole : claim ≡ band +ℚ loss = ring (at 0) (at 1 ⊕ (at 0 ⊕ minus (at 1))) (claim ∷ band ∷ []) refl ∙ ap (λ l. band +ℚ l) (sym e) in
     subst (λ x. weighted_band a s ≤ℚ x) whole below
 
 -- what is found of a rounded timing, and put
-rounded_put : (before now : Outside) (artery plan : List ℕ) (a : Street) (w : Warrant) (o : Option TimingRecord) (lines text : List ℕ) → Reads Description (before.holds artery) a
-    → IsRounded a w o lines text → HoldsExactly (now.holds plan) text → Appends before.taken now.taken lines → PutsPlan before now artery plan
-rounded_put before now artery plan a w o lines text description r held told = record {
-  street = a;
+rounded_put : (before now : Outside) (plan : List ℕ) (a : Street) (w : Warrant) (o : Option TimingRecord) (lines text : List ℕ) (r : IsRounded a w o lines text)
+    → HoldsExactly (now.holds plan) text → Appends before.taken now.taken lines → PutsPlan before now a r.timing plan
+rounded_put before now plan a w o lines text r held told = record {
   timing = r.plan.timing;
   seconds = r.plan.seconds;
   offsets = r.plan.offsets.items;
   loss = r.plan.loss;
-  description = description;
+  planned = r.answer.planned;
+  cycle_is = cycle_told a r.timing r.plan.timing r.plan.seconds r.plan.offsets.items r.certified.valid r.certified.good r.answer.good r.answer.planned;
+  offsets_are = offset_told a r.timing r.plan.timing r.plan.seconds r.plan.offsets.items r.certified.valid r.certified.good r.answer.good r.answer.planned;
   good = r.answer.good;
   best = r.best;
   lost = lost a w o r.timing r.claim (weighted_band a r.plan.timing) r.plan.loss r.certified r.answer.loss;
@@ -58,11 +61,21 @@ rounded_put before now artery plan a w o lines text description r held told = re
 }
 
 module _ (before now : Outside) (artery certificate plan : List ℕ) where
-  puts_plan : Completes before now (Some (Round artery certificate plan)) cause.Done → PutsPlan before now artery plan
+  puts_plan : Completes before now (Some (Round artery certificate plan)) cause.Done → PutsOwnPlan before now artery certificate plan
   puts_plan h =
       let f = verdict_found before.holds before.reads now.reads (Some (Round artery certificate plan)) cause.Done h.0 h.1 tt h.2 in
       let held = is_put before now plan f.finds.0 h.0 h.1 f.bytes f.put_is f.finds.1 h.3 in
-      rounded_put before now artery plan f.values.0 f.values.1.0 f.values.1.0.timing h.0 f.finds.0 f.read.0 f.finds.2 held.0 h.3.written
+      let r = f.finds.2 in
+      record {
+        street = f.values.0;
+        warrant = f.values.1.0;
+        given = r.timing;
+        description = f.read.0;
+        text = f.read.1.0;
+        accepted = r.certified.accepted;
+        given_is = r.certified.timing_is;
+        puts = rounded_put before now plan f.values.0 f.values.1.0 f.values.1.0.timing h.0 f.finds.0 r held.0 h.3.written;
+      }
 
   -- and the description is as it was, where it is another file
   kept_artery : (artery ≡ plan → ⊥) → Completes before now (Some (Round artery certificate plan)) cause.Done → now.holds artery ≡ before.holds artery
@@ -77,12 +90,26 @@ round_says apart before now artery certificate plan c h = (
   (λ e. round_ten before now artery certificate plan c e h),
 )
 
+puts_other : (before now : Outside) (artery certificate other plan : List ℕ) → Found before now (Some (RoundFrom artery certificate other plan)) cause.Done
+    → PutsOtherPlan before now artery certificate other plan
+puts_other before now artery certificate other plan f =
+    let k = f.answer.finds in
+    let r = k.2 in
+    record {
+      street = f.answer.values.0;
+      warrant = f.answer.values.1.0;
+      given = r.timing;
+      description = f.answer.read.0;
+      text = f.answer.read.1.0;
+      accepted = r.certified.accepted;
+      given_is = subst (λ (o : Option TimingRecord). Reads Timed (before.holds other) o) r.certified.timing_is f.answer.read.1.1.0;
+      puts = rounded_put before now plan f.answer.values.0 f.answer.values.1.0 f.answer.values.1.1.0 f.lines k.0 r
+          (is_put before now plan k.0 f.lines f.put f.answer.bytes f.answer.put_is k.1 f.done).0 f.done.written;
+    }
+
 pub round_from_says : RefusedIsNotAccepted → FailsRulesOut → RoundFromSays
 round_from_says apart rules before now artery certificate other plan c h = (
-  (λ e. let f = found_done before now (Some (RoundFrom artery certificate other plan)) c e h in
-      let k = f.answer.finds in
-      rounded_put before now artery plan f.answer.values.0 f.answer.values.1.0 f.answer.values.1.1.0 f.lines k.0 f.answer.read.0 k.2
-      (is_put before now plan k.0 f.lines f.put f.answer.bytes f.answer.put_is k.1 f.done).0 f.done.written),
+  (λ e. puts_other before now artery certificate other plan (found_done before now (Some (RoundFrom artery certificate other plan)) c e h)),
   (λ e. from_four before now artery certificate other plan apart rules c e (found_four before now (Some (RoundFrom artery certificate other plan)) c e h)),
   (λ e. from_ten before now artery certificate other plan c e h),
 )
@@ -97,7 +124,8 @@ plan_held reader rules before between now artery certificate plan c d two told p
     let done = subst (λ (b : Cause). Ends before between (Some (Round artery certificate plan)) b) (zero_is c e) h in
     let p = puts_plan before between artery certificate plan done in
     let kept = kept_artery before between artery certificate plan two done in
-    let reads = reads_put Timing (between.holds plan) (timing_text p.timing) p.timing put_told few p.put p.read_back in
+    let made = p.puts.timing in
+    let reads = reads_put Timing (between.holds plan) (timing_text made) made put_told few p.puts.put p.puts.read_back in
     let first = subst (λ o. Reads Description o p.street) (sym kept) p.description in
-    let found = finds_of reader between now (Some (Hold artery plan)) (p.street, (p.timing, tt)) d (subst (λ o. IsSome o) (sym kept) told, (put_told, tt)) (first, (reads, tt)) m k in
-    good_done rules p.street p.timing d found.0 p.good found.2
+    let found = finds_of reader between now (Some (Hold artery plan)) (p.street, (made, tt)) d (subst (λ o. IsSome o) (sym kept) told, (put_told, tt)) (first, (reads, tt)) m k in
+    good_done rules p.street made d found.0 p.puts.good found.2

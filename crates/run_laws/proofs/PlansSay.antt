@@ -2,7 +2,7 @@
 use Rattle.std.proofs.Common.{◌≡◌, ◌⊎◌, ℕ, List, [], ◌∷◌, Option, Some, None, Ok, inl, inr, refl, sym, ◌∙◌, ap, subst, arith}
 use Rattle.std.specs.List.{AllZip}
 use Rattle.rational_theory.specs.Rational.{ℚ}
-use Rattle.outer_edge.specs.Held.{HoldsExactly}
+use Rattle.outer_edge.specs.Held.{SameFiles, HoldsExactly}
 use Rattle.outer_edge.specs.Taken.{Appends}
 use Rattle.progression.specs.Street.{Street}
 use Rattle.progression.specs.TimingRecord.{TimingRecord}
@@ -21,19 +21,21 @@ use Rattle.run_inputs.specs.Puts.{NamedBytes, put_of}
 use Rattle.maxband_run.specs.Outside.{Outside, IsPut, IsDone}
 use Rattle.run_commands.specs.Half.{HasNoHalfPlan, IsHalfPlan}
 use Rattle.description_reader.specs.Typed.{Typed}
-use Rattle.typed_plan.specs.Ends.{IsTimingOf}
-use Rattle.run_commands.specs.Typed.{WritesTiming, TypedFinds}
+use Rattle.run_commands.specs.Typed.{TypedFinds}
 use Rattle.run_commands.specs.Draw.{DrawFinds}
 use Rattle.run_inputs.specs.Reading.{Reads, Description, Timed, TypedPlan}
 use Rattle.maxband_run.specs.Run.{Ends}
 use Rattle.run_commands.specs.Sought.{whole_bands}
 use Rattle.run_commands.specs.Checked.{whole_checked}
 use Rattle.run_laws.specs.Laws.{SaysRejected}
-use Rattle.run_laws.specs.PlanLaws.{SaysWidest, SaysNoBase, BandsSay, PutsHalf, SaysNoHalf, SaysHalf, SaysUnmatched, HalfSays, SaysUnplanned, SaysUnplannedFrom, PutsTyped, StopsTyped, SaysMiscounted, SaysBroken, SaysTooFine, TimingSays, PutsPicture, SaysUnshaped, SaysFailing, SaysUntimed, DrawSays, SaysCycle, PutsTable, SweepSays}
+use Rattle.run_laws.specs.PlanLaws.{SaysWidest, SaysNoBase, BandsSay, PutsHalf, SaysNoHalf, SaysHalf, SaysUnmatched, HalfSays, SaysUnplanned}
+use Rattle.run_laws.specs.PlanLaws.{SaysUnplannedFrom, PutsTyped, StopsTyped, SaysMiscounted, SaysTooFine, TimingSays, PutsPicture, SaysUnshaped}
+use Rattle.run_laws.specs.PlanLaws.{SaysFailing, SaysUntimed, DrawSays, SaysCycle, PutsTable, SweepSays}
 use Rattle.run_inputs.specs.Status.{number_of, IsReached}
 use Rattle.run_inputs.specs.declared.cause.Cause.{Cause}
 use Rattle.run_inputs.specs.declared.cause.Cause.TheVariants as cause
 use Rattle.run_laws.proofs.Found.{Found, found, found_done, found_four, ten_is, eleven_is}
+use Rattle.run_laws.proofs.Kept.{found_keeps, four_refuses}
 use Rattle.run_laws.proofs.Once.{unplanned_accepted}
 use Rattle.run_laws.proofs.PutRead.{is_put, reached_ends}
 
@@ -55,7 +57,7 @@ module _ (before now : Outside) (artery timing : List ℕ) where
         told = subst (λ (l : List ℕ). Appends before.taken now.taken l) k.lines_are f.done.written;
       }
 
-  says_no_base : (f : Failing) → Found before now (Some (Bands artery timing)) (cause.Fails f) → SaysNoBase before artery timing (cause.Fails f)
+  says_no_base : (f : Failing) → Found before now (Some (Bands artery timing)) (cause.Fails f) → SaysNoBase before now artery timing (cause.Fails f)
   says_no_base f k = record {
     street = k.answer.values.0;
     plan = k.answer.values.1.0;
@@ -65,9 +67,10 @@ module _ (before now : Outside) (artery timing : List ℕ) where
     fails = k.answer.finds.first.fails;
     not_base = k.answer.finds.not_base;
     cause_is = refl;
+    kept = found_keeps before now (Some (Bands artery timing)) (cause.Fails f) (λ v. v) k;
   }
 
-  bands_four : (c : Cause) → number_of c ≡ 4 → Found before now (Some (Bands artery timing)) c → SaysNoBase before artery timing c
+  bands_four : (c : Cause) → number_of c ≡ 4 → Found before now (Some (Bands artery timing)) c → SaysNoBase before now artery timing c
   bands_four (cause.Fails f) e k = says_no_base f k
   bands_four (cause.Rejected r) e k = absurd k.answer.finds
   bands_four (cause.LinkRejected r) e k = absurd k.answer.finds
@@ -107,7 +110,7 @@ module _ (before now : Outside) (artery timing new : List ℕ) where
         found = elim k.found [ inl h ↦ inl (none h) | inr h ↦ inr (some h.0 h.1 h.2) ];
       }
 
-  half_no_base : (f : Failing) → Found before now (Some (Half artery timing new)) (cause.Fails f) → SaysNoBase before artery timing (cause.Fails f)
+  half_no_base : (f : Failing) → Found before now (Some (Half artery timing new)) (cause.Fails f) → SaysNoBase before now artery timing (cause.Fails f)
   half_no_base f k = record {
     street = k.answer.values.0;
     plan = k.answer.values.1.0;
@@ -117,15 +120,16 @@ module _ (before now : Outside) (artery timing new : List ℕ) where
     fails = k.answer.finds.0.first.fails;
     not_base = k.answer.finds.0.not_base;
     cause_is = refl;
+    kept = found_keeps before now (Some (Half artery timing new)) (cause.Fails f) (λ v. v) k;
   }
 
-  half_four : (c : Cause) → number_of c ≡ 4 → Found before now (Some (Half artery timing new)) c → SaysNoBase before artery timing c
+  half_four : (c : Cause) → number_of c ≡ 4 → Found before now (Some (Half artery timing new)) c → SaysNoBase before now artery timing c
   half_four (cause.Fails f) e k = half_no_base f k
   half_four (cause.Rejected r) e k = absurd k.answer.finds
   half_four (cause.LinkRejected r) e k = absurd k.answer.finds
   half_four c e k = absurd cc
 
-  says_unmatched : OneEnd → (reason : HalfEnd) → Found before now (Some (Half artery timing new)) (cause.Unmatched reason) → SaysUnmatched before artery timing (cause.Unmatched reason)
+  says_unmatched : OneEnd → (reason : HalfEnd) → Found before now (Some (Half artery timing new)) (cause.Unmatched reason) → SaysUnmatched before now artery timing (cause.Unmatched reason)
   says_unmatched ends reason k = record {
     street = k.answer.values.0;
     plan = k.answer.values.1.0;
@@ -136,11 +140,13 @@ module _ (before now : Outside) (artery timing new : List ℕ) where
     first = k.answer.finds.first;
     not_ready = ends.not_ready k.answer.values.0 k.answer.values.1.0 reason k.answer.finds.first;
     cause_is = refl;
+    kept = found_keeps before now (Some (Half artery timing new)) (cause.Unmatched reason) (λ v. v) k;
   }
 
-  half_eleven : OneEnd → (c : Cause) (reason : HalfEnd) → c ≡ cause.Unmatched reason → Ends before now (Some (Half artery timing new)) c → SaysUnmatched before artery timing c
-  half_eleven ends c reason e h = subst (λ (d : Cause). SaysUnmatched before artery timing d) (sym e)
-      (says_unmatched ends reason (found before now (Some (Half artery timing new)) (cause.Unmatched reason) tt (λ s. s) (subst (λ (d : Cause). Ends before now (Some (Half artery timing new)) d) e h)))
+  half_eleven : OneEnd → (c : Cause) (reason : HalfEnd) → c ≡ cause.Unmatched reason → Ends before now (Some (Half artery timing new)) c → SaysUnmatched before now artery timing c
+  half_eleven ends c reason e h = subst (λ (d : Cause). SaysUnmatched before now artery timing d) (sym e)
+      (says_unmatched ends reason (found before now (Some (Half artery timing new)) (cause.Unmatched reason) tt (λ s. s)
+      (subst (λ (d : Cause). Ends before now (Some (Half artery timing new)) d) e h)))
 
 pub half_says : OneEnd → HalfSays
 half_says ends before now artery timing new c h = (
@@ -151,7 +157,8 @@ half_says ends before now artery timing new c h = (
 
 -- ---- round
 module _ (before now : Outside) (artery certificate plan : List ℕ) where
-  pub round_four : RefusedIsNotAccepted → (c : Cause) → number_of c ≡ 4 → Found before now (Some (Round artery certificate plan)) c → SaysRejected whole_bands whole_checked before artery certificate c
+  pub round_four : RefusedIsNotAccepted → (c : Cause) → number_of c ≡ 4 → Found before now (Some (Round artery certificate plan)) c
+      → SaysRejected whole_bands whole_checked before now artery certificate c
   round_four apart (cause.Rejected r) e k =
       let h = k.answer.finds.0 in
       record {
@@ -163,12 +170,13 @@ module _ (before now : Outside) (artery certificate plan : List ℕ) where
         first = h.first;
         not_accepted = apart k.answer.values.0 k.answer.values.1.0 h.reject h.first h.kept;
         cause_is = h.cause_is;
+        kept = found_keeps before now (Some (Round artery certificate plan)) (cause.Rejected r) (λ v. v) k;
       }
   round_four apart (cause.Fails f) e k = absurd k.answer.finds
   round_four apart (cause.LinkRejected r) e k = absurd k.answer.finds
   round_four apart c e k = absurd cc
 
-  says_unplanned : (reason : PlanEnd) → Found before now (Some (Round artery certificate plan)) (cause.Unplanned reason) → SaysUnplanned before artery certificate (cause.Unplanned reason)
+  says_unplanned : (reason : PlanEnd) → Found before now (Some (Round artery certificate plan)) (cause.Unplanned reason) → SaysUnplanned before now artery certificate (cause.Unplanned reason)
   says_unplanned reason k = record {
     street = k.answer.values.0;
     warrant = k.answer.values.1.0;
@@ -178,17 +186,19 @@ module _ (before now : Outside) (artery certificate plan : List ℕ) where
     accepted = unplanned_accepted k.answer.values.0 k.answer.values.1.0 k.answer.values.1.0.timing reason k.answer.finds.first;
     first = k.answer.finds.first;
     cause_is = refl;
+    kept = found_keeps before now (Some (Round artery certificate plan)) (cause.Unplanned reason) (λ v. v) k;
   }
 
-  pub round_ten : (c : Cause) → number_of c ≡ 10 → Ends before now (Some (Round artery certificate plan)) c → SaysUnplanned before artery certificate c
+  pub round_ten : (c : Cause) → number_of c ≡ 10 → Ends before now (Some (Round artery certificate plan)) c → SaysUnplanned before now artery certificate c
   round_ten c n h = let r = ten_is c n in
-      subst (λ (d : Cause). SaysUnplanned before artery certificate d) (sym r.1)
-      (says_unplanned r.0 (found before now (Some (Round artery certificate plan)) (cause.Unplanned r.0) tt (λ s. s) (subst (λ (d : Cause). Ends before now (Some (Round artery certificate plan)) d) r.1 h)))
+      subst (λ (d : Cause). SaysUnplanned before now artery certificate d) (sym r.1)
+      (says_unplanned r.0 (found before now (Some (Round artery certificate plan)) (cause.Unplanned r.0) tt (λ s. s)
+      (subst (λ (d : Cause). Ends before now (Some (Round artery certificate plan)) d) r.1 h)))
 
 -- ---- round-from
 module _ (before now : Outside) (artery certificate other plan : List ℕ) where
   pub from_four : RefusedIsNotAccepted → FailsRulesOut → (c : Cause) → number_of c ≡ 4 → Found before now (Some (RoundFrom artery certificate other plan)) c
-      → SaysRejected whole_bands whole_checked before artery certificate c ⊎ SaysFailing before artery other c
+      → SaysRejected whole_bands whole_checked before now artery certificate c ⊎ SaysFailing before now artery other c
   from_four apart rules (cause.Rejected r) e k =
       let h = k.answer.finds.0 in
       inl (record {
@@ -200,6 +210,7 @@ module _ (before now : Outside) (artery certificate other plan : List ℕ) where
         first = h.first;
         not_accepted = apart k.answer.values.0 k.answer.values.1.0 h.reject h.first h.kept;
         cause_is = h.cause_is;
+        kept = found_keeps before now (Some (RoundFrom artery certificate other plan)) (cause.Rejected r) (λ v. v) k;
       })
   from_four apart rules (cause.Fails f) e k =
       let h = k.answer.finds in
@@ -212,12 +223,13 @@ module _ (before now : Outside) (artery certificate other plan : List ℕ) where
         fails = h.first.fails;
         not_good = rules k.answer.values.0 h.timing f h.first.fails;
         cause_is = refl;
+        kept = found_keeps before now (Some (RoundFrom artery certificate other plan)) (cause.Fails f) (λ v. v) k;
       })
   from_four apart rules (cause.LinkRejected r) e k = absurd k.answer.finds
   from_four apart rules c e k = absurd cc
 
   says_from_unplanned : (reason : PlanEnd) → Found before now (Some (RoundFrom artery certificate other plan)) (cause.Unplanned reason)
-      → SaysUnplannedFrom before artery certificate other (cause.Unplanned reason)
+      → SaysUnplannedFrom before now artery certificate other (cause.Unplanned reason)
   says_from_unplanned reason k = record {
     street = k.answer.values.0;
     warrant = k.answer.values.1.0;
@@ -229,11 +241,12 @@ module _ (before now : Outside) (artery certificate other plan : List ℕ) where
     accepted = unplanned_accepted k.answer.values.0 k.answer.values.1.0 k.answer.values.1.1.0 reason k.answer.finds.first;
     first = k.answer.finds.first;
     cause_is = refl;
+    kept = found_keeps before now (Some (RoundFrom artery certificate other plan)) (cause.Unplanned reason) (λ v. v) k;
   }
 
-  pub from_ten : (c : Cause) → number_of c ≡ 10 → Ends before now (Some (RoundFrom artery certificate other plan)) c → SaysUnplannedFrom before artery certificate other c
+  pub from_ten : (c : Cause) → number_of c ≡ 10 → Ends before now (Some (RoundFrom artery certificate other plan)) c → SaysUnplannedFrom before now artery certificate other c
   from_ten c n h = let r = ten_is c n in
-      subst (λ (d : Cause). SaysUnplannedFrom before artery certificate other d) (sym r.1)
+      subst (λ (d : Cause). SaysUnplannedFrom before now artery certificate other d) (sym r.1)
       (says_from_unplanned r.0 (found before now (Some (RoundFrom artery certificate other plan)) (cause.Unplanned r.0) tt (λ s. s)
       (subst (λ (d : Cause). Ends before now (Some (RoundFrom artery certificate other plan)) d) r.1 h)))
 
@@ -252,11 +265,11 @@ eleven_four e = omega (arith, e)
 eleven_three : ◌≡◌ {A = ℕ} 11 3 → ⊥
 eleven_three e = omega (arith, e)
 
--- no timing is put with status 3
-no_three : (a : Street) (t : TimingRecord) (c : Cause) (l : List ℕ) (bytes : Option (List ℕ)) → number_of c ≡ 3 → WritesTiming a t c l bytes → ⊥
-no_three a t cause.Done l bytes e h = absurd cc
-no_three a t (cause.Fails f) l bytes e h = absurd cc
-no_three a t c l bytes e h = h
+none_three : ◌≡◌ {A = ℕ} 0 3 → ⊥
+none_three e = omega (arith, e)
+
+none_four : ◌≡◌ {A = ℕ} 0 4 → ⊥
+none_four e = omega (arith, e)
 
 module _ (before now : Outside) (artery plan timing : List ℕ) where
   kept_none : (lines : List ℕ) (put : Option NamedBytes) (bytes : Option (List ℕ)) → put ≡ put_of (Some timing) bytes → bytes ≡ None → IsDone before now lines put → IsPut None before.holds now.holds
@@ -265,18 +278,18 @@ module _ (before now : Outside) (artery plan timing : List ℕ) where
   module _ (a : Street) (p : Typed) (d : Reads Description (before.holds artery) a) (r : Reads TypedPlan (before.holds plan) p) where
     typed_put : (f : Found before now (Some (TimingOf artery plan timing)) cause.Done) → TypedFinds a p cause.Done f.lines f.answer.bytes → PutsTyped before now artery plan timing
     typed_put f (inl h) =
-        let k = h.finds in
+        let k = h.finds.1 in
         record {
           street = a;
           typed = p;
-          made = h.timing;
-          bands = k.2.bands;
+          made = h.made;
+          broken = k.2.broken;
           description = d;
           text = r;
-          made_is = h.timing_is;
-          measured = k.2.measured;
+          made_is = h.made_is;
+          judged = k.2.judged;
           put = subst (λ (x : List ℕ). HoldsExactly (now.holds timing) x) k.2.written (is_put before now timing k.0 f.lines f.put f.answer.bytes f.answer.put_is k.1 f.done).0;
-          read_back = subst (λ (x : List ℕ). timing_of x ≡ Ok h.timing) k.2.written k.2.read_back;
+          read_back = subst (λ (x : List ℕ). timing_of x ≡ Ok h.made.timing) k.2.written k.2.read_back;
           told = subst (λ (l : List ℕ). Appends before.taken now.taken l) k.2.lines_are f.done.written;
         }
     typed_put f (inr (inl h)) = let e = h.cause_is in absurd cc
@@ -284,35 +297,18 @@ module _ (before now : Outside) (artery plan timing : List ℕ) where
 
     module _ (lines : List ℕ) (put : Option NamedBytes) (bytes : Option (List ℕ)) (put_is : put ≡ put_of (Some timing) bytes) (done : IsDone before now lines put) where
       miscounted : (c : Cause) → number_of c ≡ 3 → TypedFinds a p c lines bytes → SaysMiscounted before now artery plan c
-      miscounted c e (inl h) = absurd (no_three a h.timing c lines bytes e h.finds)
+      miscounted c e (inl h) = absurd (none_three (sym (ap number_of h.finds.0) ∙ e))
       miscounted c e (inr (inl h)) =
           record { street = a; typed = p; refusal = h.refusal; description = d; text = r; first = h.first; cause_is = h.cause_is; kept = kept_none lines put bytes put_is h.no_put done }
       miscounted c e (inr (inr h)) = absurd (eleven_three (sym (ap number_of h.cause_is) ∙ e))
 
-      breaks : (t : TimingRecord) → IsTimingOf a p t → (c : Cause) → number_of c ≡ 4 → WritesTiming a t c lines bytes → SaysBroken before now artery plan c
-      breaks t is (cause.Fails f) e h = record {
-        street = a;
-        typed = p;
-        made = t;
-        failing = f;
-        description = d;
-        text = r;
-        made_is = is;
-        fails = h.0.first.fails;
-        not_base = h.0.not_base;
-        cause_is = refl;
-        kept = kept_none lines put bytes put_is h.1 done;
-      }
-      breaks t is cause.Done e h = absurd cc
-      breaks t is c e h = absurd h
-
-      broken : (c : Cause) → number_of c ≡ 4 → TypedFinds a p c lines bytes → SaysBroken before now artery plan c
-      broken c e (inl h) = breaks h.timing h.timing_is c e h.finds
-      broken c e (inr (inl h)) = absurd (three_four (sym (ap number_of h.cause_is) ∙ e))
-      broken c e (inr (inr h)) = absurd (eleven_four (sym (ap number_of h.cause_is) ∙ e))
+      none_broken : (c : Cause) → number_of c ≡ 4 → TypedFinds a p c lines bytes → ⊥
+      none_broken c e (inl h) = none_four (sym (ap number_of h.finds.0) ∙ e)
+      none_broken c e (inr (inl h)) = three_four (sym (ap number_of h.cause_is) ∙ e)
+      none_broken c e (inr (inr h)) = eleven_four (sym (ap number_of h.cause_is) ∙ e)
 
       too_fine_of : (reason : HalfEnd) → TypedFinds a p (cause.Unmatched reason) lines bytes → SaysTooFine before now artery plan (cause.Unmatched reason)
-      too_fine_of reason (inl h) = absurd h.finds
+      too_fine_of reason (inl h) = let e = h.finds.0 in absurd cc
       too_fine_of reason (inr (inl h)) = let e = h.cause_is in absurd cc
       too_fine_of reason (inr (inr h)) =
           record { street = a; typed = p; ticks = h.ticks; description = d; text = r; first = h.first; cause_is = h.cause_is; kept = kept_none lines put bytes put_is h.no_put done }
@@ -337,7 +333,7 @@ timing_says before now artery plan timing c h = (
       typed_put before now artery plan timing f.answer.values.0 f.answer.values.1.0 f.answer.read.0 f.answer.read.1.0 f f.answer.finds),
   (λ e. timing_three before now artery plan timing c e h),
   (λ e. let f = found_four before now (Some (TimingOf artery plan timing)) c e h in
-      broken before now artery plan timing f.answer.values.0 f.answer.values.1.0 f.answer.read.0 f.answer.read.1.0 f.lines f.put f.answer.bytes f.answer.put_is f.done c e f.answer.finds),
+      none_broken before now artery plan timing f.answer.values.0 f.answer.values.1.0 f.answer.read.0 f.answer.read.1.0 f.lines f.put f.answer.bytes f.answer.put_is f.done c e f.answer.finds),
   (λ e. let r = eleven_is c e in timing_eleven before now artery plan timing c r.0 r.1 h),
 )
 
@@ -346,11 +342,9 @@ ten_apart : ◌≡◌ {A = ℕ} 10 4 → ⊥
 ten_apart e = omega (arith, e)
 
 module _ (before now : Outside) (artery timed picture : List ℕ) (title : Option (List ℕ)) where
-  drawn_none : (lines : List ℕ) (put : Option NamedBytes) (bytes : Option (List ℕ)) → put ≡ put_of (Some picture) bytes → bytes ≡ None → IsDone before now lines put → IsPut None before.holds now.holds
-  drawn_none lines put bytes e n h = subst (λ (p : Option NamedBytes). IsPut p before.holds now.holds) (e ∙ ap (put_of (Some picture)) n) h.files
-
   -- what is found of the timing, where the file has one
-  picture_of : (a : Street) (o : Option TimingRecord) (f : Found before now (Some (Draw artery timed picture title)) cause.Done) → Reads Description (before.holds artery) a → Reads Timed (before.holds timed) o
+  picture_of : (a : Street) (o : Option TimingRecord) (f : Found before now (Some (Draw artery timed picture title)) cause.Done)
+      → Reads Description (before.holds artery) a → Reads Timed (before.holds timed) o
       → DrawFinds a o title cause.Done f.lines f.answer.bytes → PutsPicture before now artery timed picture title
   picture_of a None f d r h = let e = h.0 in absurd cc
   picture_of a (Some t) f d r h = record {
@@ -360,44 +354,47 @@ module _ (before now : Outside) (artery timed picture : List ℕ) (title : Optio
     description = d;
     text = r;
     shape = h.2.shape;
-    broken_is = h.2.broken_is;
+    judged = h.2.judged;
     put = subst (λ (x : List ℕ). HoldsExactly (now.holds picture) x) h.2.text_is (is_put before now picture h.0 f.lines f.put f.answer.bytes f.answer.put_is h.1 f.done).0;
     told = subst (λ (l : List ℕ). Appends before.taken now.taken l) h.2.lines_are f.done.written;
   }
 
-  module _ (lines : List ℕ) (put : Option NamedBytes) (bytes : Option (List ℕ)) (put_is : put ≡ put_of (Some picture) bytes) (done : IsDone before now lines put) where
-    unshaped_of : (a : Street) (o : Option TimingRecord) (c : Cause) → Reads Description (before.holds artery) a → Reads Timed (before.holds timed) o → number_of c ≡ 4
-        → DrawFinds a o title c lines bytes → SaysUnshaped before now artery timed c
-    unshaped_of a None c d r e h = absurd (ten_apart (sym (ap number_of h.0) ∙ e))
-    unshaped_of a (Some t) (cause.Fails f) d r e h = record {
-      street = a;
-      timing = t;
-      description = d;
-      text = r;
-      unshaped = h.1.fails;
-      cause_is = ap cause.Fails h.0;
-      kept = drawn_none lines put bytes put_is h.3 done;
-    }
-    unshaped_of a (Some t) cause.Done d r e h = absurd cc
-    unshaped_of a (Some t) c d r e h = absurd h
+  unshaped_of : (a : Street) (o : Option TimingRecord) (c : Cause) (l : List ℕ) (bytes : Option (List ℕ)) → SameFiles before.holds now.holds
+      → Reads Description (before.holds artery) a → Reads Timed (before.holds timed) o → number_of c ≡ 4 → DrawFinds a o title c l bytes → SaysUnshaped before now artery timed c
+  unshaped_of a None c l bytes kept d r e h = absurd (ten_apart (sym (ap number_of h.0) ∙ e))
+  unshaped_of a (Some t) (cause.Fails f) l bytes kept d r e h = record {
+    street = a;
+    timing = t;
+    description = d;
+    text = r;
+    unshaped = h.1.fails;
+    cause_is = ap cause.Fails h.0;
+    kept = kept;
+  }
+  unshaped_of a (Some t) cause.Done l bytes kept d r e h = absurd cc
+  unshaped_of a (Some t) c l bytes kept d r e h = absurd h
 
-    untimed_of : (a : Street) (o : Option TimingRecord) (reason : PlanEnd) → Reads Description (before.holds artery) a → Reads Timed (before.holds timed) o
-        → DrawFinds a o title (cause.Unplanned reason) lines bytes → SaysUntimed before now artery timed (cause.Unplanned reason)
-    untimed_of a None reason d r h = record { street = a; description = d; text = r; cause_is = h.0; kept = drawn_none lines put bytes put_is h.2 done }
-    untimed_of a (Some t) reason d r h = absurd h
+  untimed_of : (a : Street) (o : Option TimingRecord) (reason : PlanEnd) (l : List ℕ) (bytes : Option (List ℕ)) → SameFiles before.holds now.holds
+      → Reads Description (before.holds artery) a → Reads Timed (before.holds timed) o → DrawFinds a o title (cause.Unplanned reason) l bytes
+      → SaysUntimed before now artery timed (cause.Unplanned reason)
+  untimed_of a None reason l bytes kept d r h = record { street = a; description = d; text = r; cause_is = h.0; kept = kept }
+  untimed_of a (Some t) reason l bytes kept d r h = absurd h
 
   draw_ten : (c : Cause) (reason : PlanEnd) → c ≡ cause.Unplanned reason → Ends before now (Some (Draw artery timed picture title)) c → SaysUntimed before now artery timed c
   draw_ten c reason e h =
-      let f = found before now (Some (Draw artery timed picture title)) (cause.Unplanned reason) tt (λ s. s) (subst (λ (d : Cause). Ends before now (Some (Draw artery timed picture title)) d) e h) in
+      let f = found before now (Some (Draw artery timed picture title)) (cause.Unplanned reason) tt (λ s. s)
+      (subst (λ (d : Cause). Ends before now (Some (Draw artery timed picture title)) d) e h) in
       subst (λ (d : Cause). SaysUntimed before now artery timed d) (sym e)
-      (untimed_of f.lines f.put f.answer.bytes f.answer.put_is f.done f.answer.values.0 f.answer.values.1.0 reason f.answer.read.0 f.answer.read.1.0 f.answer.finds)
+      (untimed_of f.answer.values.0 f.answer.values.1.0 reason f.lines f.answer.bytes
+      (found_keeps before now (Some (Draw artery timed picture title)) (cause.Unplanned reason) (λ v. v) f) f.answer.read.0 f.answer.read.1.0 f.answer.finds)
 
 pub draw_says : DrawSays
 draw_says before now artery timed picture title c h = (
   (λ e. let f = found_done before now (Some (Draw artery timed picture title)) c e h in
       picture_of before now artery timed picture title f.answer.values.0 f.answer.values.1.0 f f.answer.read.0 f.answer.read.1.0 f.answer.finds),
   (λ e. let f = found_four before now (Some (Draw artery timed picture title)) c e h in
-      unshaped_of before now artery timed picture title f.lines f.put f.answer.bytes f.answer.put_is f.done f.answer.values.0 f.answer.values.1.0 c f.answer.read.0 f.answer.read.1.0 e f.answer.finds),
+      unshaped_of before now artery timed picture title f.answer.values.0 f.answer.values.1.0 c f.lines f.answer.bytes
+      (found_keeps before now (Some (Draw artery timed picture title)) c (four_refuses c e) f) f.answer.read.0 f.answer.read.1.0 e f.answer.finds),
   (λ e. let r = ten_is c e in draw_ten before now artery timed picture title c r.0 r.1 h),
 )
 

@@ -38,7 +38,8 @@ verdict_found held before after asked c lines put v (inr h) = h
 -- what these bytes leave in the files, where they are put into the file of this name
 pub is_put : (before now : Outside) (name text lines : List ℕ) (put : Option NamedBytes) (bytes : Option (List ℕ))
     → put ≡ put_of (Some name) bytes → bytes ≡ Some text → IsDone before now lines put → IsPut (put_of (Some name) (Some text)) before.holds now.holds
-is_put before now name text lines put bytes e f h = subst (λ (o : Option (List ℕ)). IsPut (put_of (Some name) o) before.holds now.holds) f (subst (λ (p : Option NamedBytes). IsPut p before.holds now.holds) e h.files)
+is_put before now name text lines put bytes e f h = subst (λ (o : Option (List ℕ)). IsPut (put_of (Some name) o) before.holds now.holds) f
+    (subst (λ (p : Option NamedBytes). IsPut p before.holds now.holds) e h.files)
 
 -- a file that holds a text is read as what the text is read as
 pub reads_put : (r : Reader) (o : Option (List ℕ)) (text : List ℕ) (v : Value r) → IsSome o → IfSome o (λ bytes. length bytes ≤ most_bytes r) → HoldsExactly o text → IsReadAs r text v → Reads r o v

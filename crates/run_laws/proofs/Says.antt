@@ -1,10 +1,10 @@
 -- What the numbers of the statuses say of the model.
-use Rattle.std.proofs.Common.{◌≡◌, ℕ, List, Option, Some, None, Ok, ◌<◌, inl, inr, refl, sym, ◌∙◌, ap, subst, arith}
-use Rattle.std.specs.Prelude.{IfSome, option_map}
-use Rattle.outer_edge.specs.Held.{HoldsExactly}
+use Rattle.std.proofs.Common.{◌≡◌, ℕ, List, ◌++◌, Option, Some, None, Ok, ◌<◌, inl, inr, refl, sym, ◌∙◌, ap, subst, arith, append_assoc}
+use Rattle.std.specs.Prelude.{codes, IfSome, option_map}
+use Rattle.outer_edge.specs.Held.{SameFiles, HoldsExactly}
 use Rattle.outer_edge.specs.Taken.{Appends}
 use Rattle.rational_theory.specs.Rational.{ℚ, ◌≤ℚ◌}
-use Rattle.progression.specs.Street.{Street}
+use Rattle.progression.specs.Street.{Street, count}
 use Rattle.progression.specs.TimingRecord.{TimingRecord}
 use Rattle.plan_text.specs.CertificateReading.{certificate_of}
 use Rattle.certificate_model.specs.declared.certificate.Claim.{Claim}
@@ -28,6 +28,8 @@ use Rattle.branch_tree.specs.Searches.{incumbent_of}
 use Rattle.branch_tree.specs.SiteNames.{IsSiteOf, EndsAt}
 use Rattle.branch_tree.specs.Enough.{enough_of, IsTooLow, IsWithin}
 use Rattle.link_theory.specs.LinkRecord.{LinkRecord}
+use Rattle.diagram_print.specs.Report.{best_lines, verdict_lines, timing_lines}
+use Rattle.multi_band.specs.LinkReport.{link_timing_lines}
 use Rattle.multi_band.specs.LinkCertified.{link_warrant_of}
 use Rattle.multi_band.specs.LinkKind.{link_bands as kind_of_links}
 use Rattle.multi_band.specs.LinkRules.{link_rules}
@@ -42,7 +44,9 @@ use Rattle.run_commands.specs.Searched.{cause_of}
 use Rattle.run_inputs.specs.Reading.{Value, IsReadAs, Reads, Description}
 use Rattle.run_commands.specs.Sought.{Sought, whole_bands, bands_of_links}
 use Rattle.maxband_run.specs.Run.{Ends}
-use Rattle.run_laws.specs.Laws.{IsVerdict, IsWholeLimit, PutsBest, PutsNone, PutsBound, SearchSays, SolveSays, LinksSay, HoldSays, CheckSays, CheckLinksSays, SaysGood, SaysBroken, SaysAccepted, SaysRejected, SaysChecked, PutsRenewed, RenewSays}
+use Rattle.run_laws.specs.Laws.{IsVerdict, IsWholeLimit, HoldsCertificate, value_line, open_lines, PutsBest, PutsNone, PutsBound, SearchSays}
+use Rattle.run_laws.specs.Laws.{SolveSays, LinksSay, HoldSays, CheckSays, CheckLinksSays, SaysGood, SaysBroken, SaysAccepted, SaysRejected}
+use Rattle.run_laws.specs.Laws.{SaysChecked, PutsRenewed, RenewSays}
 use Rattle.run_laws.specs.StopLaws.{IsOutOfWork, StopsFor, SearchStops, whole_stops, link_stops, StopSays, SolveStopSays, LinksStopSays}
 use Rattle.run_inputs.specs.Status.{number_of}
 use Rattle.run_inputs.specs.declared.cause.Cause.{Cause}
@@ -53,6 +57,8 @@ use Rattle.run_laws.proofs.Complete.{Completes}
 use Rattle.run_laws.proofs.Found.{Found, zero_is, found_done, found_four}
 use Rattle.maxband_run.proofs.Reached.{AllFour}
 use Rattle.run_laws.proofs.Once.{RefusedApart}
+use Rattle.run_laws.proofs.Kept.{found_keeps, four_refuses}
+use Rattle.run_laws.proofs.Reports.{after_value, open_first, after_weighted, weighted_first, after_link_value}
 use Rattle.run_laws.proofs.PutRead.{verdict_found, is_put}
 
 -- ---- which cause has a number
@@ -94,25 +100,32 @@ ProvesOf k a timing bound (Stopped stop) = k.Bounded a bound × IfSome timing (�
 abbrev claimed_by : (k : Sought) → Street → Option k.Timing → ℚ → Verdict SitePart → Claim
 claimed_by k a timing bound verdict = claim_by verdict bound (option_map (k.value a) timing)
 
--- what the text that is put tells of what was found, and why the search stopped, where it did
-record Tells (k : Sought) (stops : SearchStops k.Timing) (a : Street) (limit : Option ℕ) (c : Cause) (text : List ℕ) : Type 0 where
+-- what the text that is put, and the lines that are told, say of what was found, and why the search stopped, where it did
+record Tells (k : Sought) (s : Checked k) (stops : SearchStops k.Timing) (a : Street) (limit : Option ℕ) (c : Cause) (lines text : List ℕ) : Type 0 where
   pub verdict : Verdict SitePart
   pub timing : Option k.Timing
   pub bound : ℚ
   pub warrant : Value k.reader
   pub cause_is : c ≡ cause_of verdict
   pub proves : ProvesOf k a timing bound verdict
+  pub accepted : s.Accepted a warrant
   pub read_back : IsReadAs k.reader text warrant
   pub claim_is : k.claim warrant ≡ claimed_by k a timing bound verdict
   pub timing_is : k.timing warrant ≡ timing
+  pub report : k.Timing → List ℕ
+  pub rest : k.Timing → List ℕ
+  pub begins : (t : k.Timing) → report t ≡ value_line (Some (k.value a t)) ++ rest t
+  pub lines_are : lines ≡ verdict_lines s.table (count a) (option_map report timing) bound verdict
   pub why : (stop : Stop SitePart) → verdict ≡ Stopped stop → stops a limit timing bound stop
 
-record HasPut (k : Sought) (stops : SearchStops k.Timing) (before now : Outside) (artery certificate : List ℕ) (limit : Option ℕ) (c : Cause) : Type 0 where
+record HasPut (k : Sought) (s : Checked k) (stops : SearchStops k.Timing) (before now : Outside) (artery certificate : List ℕ) (limit : Option ℕ) (c : Cause) : Type 0 where
   pub street : Street
   pub description : Reads Description (before.holds artery) street
+  pub lines : List ℕ
+  pub written : Appends before.taken now.taken lines
   pub text : List ℕ
   pub held : HoldsExactly (now.holds certificate) text
-  pub tells : Tells k stops street limit c text
+  pub tells : Tells k s stops street limit c lines text
 
 best_plan : (k : Sought) (a : Street) (timing : Option k.Timing) (bound : ℚ) → IsBestOf k a timing bound → (plan : k.Timing) × (timing ≡ Some plan) × k.Best a plan
 best_plan k a None bound h = absurd h
@@ -122,8 +135,15 @@ best_plan k a (Some plan) bound h = (plan, refl, h.0)
 abbrev WholeLimits : (T : Type 0) → SearchStops T → Type 0
 WholeLimits T stops = (a : Street) (limit : Option ℕ) (timing : Option T) (bound : ℚ) (stop : Stop SitePart) → stops a limit timing bound stop → IsWholeLimit limit stop
 
-module _ (k : Sought) (stops : SearchStops k.Timing) (whole : WholeLimits k.Timing stops) (before now : Outside) (artery certificate : List ℕ) (limit : Option ℕ) where
-  puts_best : HasPut k stops before now artery certificate limit cause.Done → PutsBest k before now artery certificate
+module _ (k : Sought) (s : Checked k) (stops : SearchStops k.Timing) (whole : WholeLimits k.Timing stops) (before now : Outside) (artery certificate : List ℕ) (limit : Option ℕ) where
+  -- the certificate that is put, with this claim
+  holds_claim : (c : Cause) (h : HasPut k s stops before now artery certificate limit c) (claimed : Claim) (timing : Option k.Timing)
+      → k.claim h.tells.warrant ≡ claimed → k.timing h.tells.warrant ≡ timing
+      → HoldsCertificate k s h.street (now.holds certificate) claimed timing
+  holds_claim c h claimed timing e f =
+      record { text = h.text; warrant = h.tells.warrant; put = h.held; read = h.tells.read_back; accepted = h.tells.accepted; claim_is = e; timing_is = f }
+
+  puts_best : HasPut k s stops before now artery certificate limit cause.Done → PutsBest k s before now artery certificate
   puts_best h =
       let a = h.street in
       let t = h.tells in
@@ -131,27 +151,53 @@ module _ (k : Sought) (stops : SearchStops k.Timing) (whole : WholeLimits k.Timi
       let best = best_plan k a t.timing t.bound (subst (λ (v : Verdict SitePart). ProvesOf k a t.timing t.bound v) is t.proves) in
       let claimed : k.claim t.warrant ≡ claim.Best (k.value a best.0) =
       t.claim_is ∙ ap (claimed_by k a t.timing t.bound) is ∙ ap (λ (o : Option k.Timing). claimed_by k a o t.bound Best) best.1 in
-      record { street = a; plan = best.0; description = h.description; best = best.2; put = (h.text, h.held, t.warrant, t.read_back, claimed, t.timing_is ∙ best.1) }
+      let first = codes "verdict best\n" in
+      let value = value_line (Some (k.value a best.0)) in
+      let lines : h.lines ≡ (first ++ value) ++ t.rest best.0 =
+      t.lines_are
+      ∙ ap (verdict_lines s.table (count a) (option_map t.report t.timing) t.bound) is
+      ∙ ap (λ (o : Option k.Timing). best_lines (option_map t.report o)) best.1
+      ∙ ap (λ l. first ++ l) (t.begins best.0)
+      ∙ sym (append_assoc first value (t.rest best.0)) in
+      record {
+        street = a;
+        plan = best.0;
+        description = h.description;
+        best = best.2;
+        told = (t.rest best.0, subst (λ (l : List ℕ). Appends before.taken now.taken l) lines h.written);
+        put = holds_claim cause.Done h (claim.Best (k.value a best.0)) (Some best.0) claimed (t.timing_is ∙ best.1);
+      }
 
-  puts_none : HasPut k stops before now artery certificate limit cause.NoTiming → PutsNone k before now artery certificate
+  puts_none : HasPut k s stops before now artery certificate limit cause.NoTiming → PutsNone k s before now artery certificate
   puts_none h =
       let a = h.street in
       let t = h.tells in
       let is = verdict_none t.verdict t.cause_is in
       let none = subst (λ (v : Verdict SitePart). ProvesOf k a t.timing t.bound v) is t.proves in
       let claimed : k.claim t.warrant ≡ claim.NoTiming = t.claim_is ∙ ap (claimed_by k a t.timing t.bound) is in
-      record { street = a; description = h.description; none = none.1; put = (h.text, h.held, t.warrant, t.read_back, claimed, t.timing_is ∙ none.0) }
+      let lines : h.lines ≡ codes "verdict none\n" = t.lines_are ∙ ap (verdict_lines s.table (count a) (option_map t.report t.timing) t.bound) is in
+      record {
+        street = a;
+        description = h.description;
+        none = none.1;
+        told = subst (λ (l : List ℕ). Appends before.taken now.taken l) lines h.written;
+        put = holds_claim cause.NoTiming h claim.NoTiming None claimed (t.timing_is ∙ none.0);
+      }
 
   abbrev PutsStop : Cause → Type 0
-  PutsStop c = (p : PutsBound k before now artery certificate limit c) × stops p.street limit p.timing p.bound p.stop
+  PutsStop c = (p : PutsBound k s before now artery certificate limit c) × stops p.street limit p.timing p.bound p.stop
 
-  puts_stop : (stop : Stop SitePart) → HasPut k stops before now artery certificate limit (cause.Stopped stop) → PutsStop (cause.Stopped stop)
+  puts_stop : (stop : Stop SitePart) → HasPut k s stops before now artery certificate limit (cause.Stopped stop) → PutsStop (cause.Stopped stop)
   puts_stop stop h =
       let a = h.street in
       let t = h.tells in
       let is = verdict_stopped stop t.verdict t.cause_is in
       let bound = subst (λ (v : Verdict SitePart). ProvesOf k a t.timing t.bound v) is t.proves in
-      let claimed : k.claim t.warrant ≡ claim.Stopped t.bound (option_map (k.value a) t.timing) = t.claim_is ∙ ap (claimed_by k a t.timing t.bound) is in
+      let value = option_map (k.value a) t.timing in
+      let claimed : k.claim t.warrant ≡ claim.Stopped t.bound value = t.claim_is ∙ ap (claimed_by k a t.timing t.bound) is in
+      let more = after_value k a t.report t.rest t.begins t.timing in
+      let lines : h.lines ≡ open_lines s.table a stop t.bound value ++ more =
+      t.lines_are ∙ ap (verdict_lines s.table (count a) (option_map t.report t.timing) t.bound) is ∙ open_first k a t.report t.rest t.begins s.table t.timing t.bound stop in
       let why = t.why stop is in (
         record {
           street = a;
@@ -161,33 +207,38 @@ module _ (k : Sought) (stops : SearchStops k.Timing) (whole : WholeLimits k.Timi
           description = h.description;
           bounded = bound.0;
           good = bound.1;
-          put = (h.text, h.held, t.warrant, t.read_back, claimed, t.timing_is);
+          told = (more, subst (λ (l : List ℕ). Appends before.taken now.taken l) lines h.written);
+          put = holds_claim (cause.Stopped stop) h (claim.Stopped t.bound value) t.timing claimed t.timing_is;
           cause_is = refl;
           whole_limit = whole a limit t.timing t.bound stop why;
         },
         why,
       )
 
-module _ (k : Sought) (stops : SearchStops k.Timing) (whole : WholeLimits k.Timing stops) (asks : List ℕ → List ℕ → Option ℕ → Request)
-    (put : (before now : Outside) (artery certificate : List ℕ) (limit : Option ℕ) (c : Cause) → IsVerdict c → Completes before now (Some (asks artery certificate limit)) c → HasPut k stops before now artery certificate limit c)
+module _ (k : Sought) (s : Checked k) (stops : SearchStops k.Timing) (whole : WholeLimits k.Timing stops) (asks : List ℕ → List ℕ → Option ℕ → Request)
+    (put : (before now : Outside) (artery certificate : List ℕ) (limit : Option ℕ) (c : Cause) → IsVerdict c → Completes before now (Some (asks artery certificate limit)) c
+    → HasPut k s stops before now artery certificate limit c)
   where
     module _ (before now : Outside) (artery certificate : List ℕ) (limit : Option ℕ) where
-      zero_says : (c : Cause) → c ≡ cause.Done → Ends before now (Some (asks artery certificate limit)) c → PutsBest k before now artery certificate
+      zero_says : (c : Cause) → c ≡ cause.Done → Ends before now (Some (asks artery certificate limit)) c → PutsBest k s before now artery certificate
       zero_says c e h =
-          puts_best k stops whole before now artery certificate limit (put before now artery certificate limit cause.Done tt (subst (λ (d : Cause). Ends before now (Some (asks artery certificate limit)) d) e h))
+          puts_best k s stops whole before now artery certificate limit (put before now artery certificate limit cause.Done tt
+          (subst (λ (d : Cause). Ends before now (Some (asks artery certificate limit)) d) e h))
 
-      one_says : (c : Cause) → c ≡ cause.NoTiming → Ends before now (Some (asks artery certificate limit)) c → PutsNone k before now artery certificate
+      one_says : (c : Cause) → c ≡ cause.NoTiming → Ends before now (Some (asks artery certificate limit)) c → PutsNone k s before now artery certificate
       one_says c e h =
-          puts_none k stops whole before now artery certificate limit (put before now artery certificate limit cause.NoTiming tt (subst (λ (d : Cause). Ends before now (Some (asks artery certificate limit)) d) e h))
+          puts_none k s stops whole before now artery certificate limit (put before now artery certificate limit cause.NoTiming tt
+          (subst (λ (d : Cause). Ends before now (Some (asks artery certificate limit)) d) e h))
 
-      two_says : (c : Cause) (stop : Stop SitePart) → c ≡ cause.Stopped stop → Ends before now (Some (asks artery certificate limit)) c → PutsStop k stops whole before now artery certificate limit c
-      two_says c stop e h = subst (λ (d : Cause). PutsStop k stops whole before now artery certificate limit d) (sym e)
-          (puts_stop k stops whole before now artery certificate limit stop (put before now artery certificate limit (cause.Stopped stop) tt (subst (λ (d : Cause). Ends before now (Some (asks artery certificate limit)) d) e h)))
+      two_says : (c : Cause) (stop : Stop SitePart) → c ≡ cause.Stopped stop → Ends before now (Some (asks artery certificate limit)) c → PutsStop k s stops whole before now artery certificate limit c
+      two_says c stop e h = subst (λ (d : Cause). PutsStop k s stops whole before now artery certificate limit d) (sym e)
+          (puts_stop k s stops whole before now artery certificate limit stop (put before now artery certificate limit (cause.Stopped stop) tt
+          (subst (λ (d : Cause). Ends before now (Some (asks artery certificate limit)) d) e h)))
 
-    stop_says : StopSays k stops asks
-    stop_says before now artery certificate limit c h e = let s = two_is c e in two_says before now artery certificate limit c s.0 s.1 h
+    stop_says : StopSays k s stops asks
+    stop_says before now artery certificate limit c h e = let stop = two_is c e in two_says before now artery certificate limit c stop.0 stop.1 h
 
-    search_says : SearchSays k asks
+    search_says : SearchSays k s asks
     search_says before now artery certificate limit c h = (
       (λ e. zero_says before now artery certificate limit c (zero_is c e) h),
       (λ e. one_says before now artery certificate limit c (one_is c e) h),
@@ -208,7 +259,8 @@ module _ {T K : Type 0} (r : Rules T K SitePart) (enough : ℕ) (IsNamed : Site 
   out_of_work nodes best spent (Work units) h w = (h.cause.0, h.cause.1, too_low spent h.cause.1 w)
   out_of_work nodes best spent (Wide site) h w = tt
 
-  stopped_for : (nodes : List TreeNode) (best : Option (Incumbent T)) (spent : ℕ) (verdict : Verdict SitePart) → IsAnswer r limit nodes best bound spent verdict → IsWithin enough limit verdict → EndsAt IsNamed verdict
+  stopped_for : (nodes : List TreeNode) (best : Option (Incumbent T)) (spent : ℕ) (verdict : Verdict SitePart) → IsAnswer r limit nodes best bound spent verdict
+      → IsWithin enough limit verdict → EndsAt IsNamed verdict
       → (stop : Stop SitePart) → verdict ≡ Stopped stop → StopsFor r enough IsNamed limit best bound stop
   stopped_for nodes best spent verdict h w n stop e =
       let answer : IsStoppedAnswer r limit nodes best bound spent stop = subst (λ (v : Verdict SitePart). IsAnswer r limit nodes best bound spent v) e h in
@@ -229,13 +281,15 @@ whole_proves a timing bound NoTiming h = h
 whole_proves a timing bound (Stopped stop) h = h
 
 solve_put : (before now : Outside) (artery certificate : List ℕ) (limit : Option ℕ) (c : Cause) → IsVerdict c → Completes before now (Some (Solve artery certificate limit)) c
-    → HasPut whole_bands whole_stops before now artery certificate limit c
+    → HasPut whole_bands whole_checked whole_stops before now artery certificate limit c
 solve_put before now artery certificate limit c v h =
     let f = verdict_found before.holds before.reads now.reads (Some (Solve artery certificate limit)) c h.0 h.1 v h.2 in
     let s = f.finds.2 in
     record {
       street = f.values.0;
       description = f.read.0;
+      lines = h.0;
+      written = h.3.written;
       text = f.finds.0;
       held = (is_put before now certificate f.finds.0 h.0 h.1 f.bytes f.put_is f.finds.1 h.3).0;
       tells = record {
@@ -245,10 +299,16 @@ solve_put before now artery certificate limit c v h =
         warrant = warrant_of f.values.0 s.found;
         cause_is = s.cause_is;
         proves = whole_proves f.values.0 s.found.timing s.found.bound s.found.verdict s.searched.proves;
+        accepted = s.searched.accepted;
         read_back = s.certificate_is.read_back;
         claim_is = refl;
         timing_is = refl;
-        why = stopped_for (rules_of f.values.0) (enough_of f.values.0) (IsSiteOf f.values.0) limit s.found.bound s.found.nodes.items (incumbent_of f.values.0 s.found.timing) s.found.spent s.found.verdict
+        report = timing_lines f.values.0;
+        rest = after_weighted f.values.0;
+        begins = weighted_first f.values.0;
+        lines_are = s.lines_are;
+        why = stopped_for (rules_of f.values.0) (enough_of f.values.0) (IsSiteOf f.values.0) limit s.found.bound s.found.nodes.items
+            (incumbent_of f.values.0 s.found.timing) s.found.spent s.found.verdict
             s.searched.search s.searched.enough s.searched.site;
       };
     }
@@ -257,10 +317,10 @@ whole_spent : WholeLimits TimingRecord whole_stops
 whole_spent a limit timing bound stop h = whole_limit (rules_of a) (enough_of a) (IsSiteOf a) limit bound (incumbent_of a timing) stop h
 
 pub solve_says : SolveSays
-solve_says = search_says whole_bands whole_stops whole_spent Solve solve_put
+solve_says = search_says whole_bands whole_checked whole_stops whole_spent Solve solve_put
 
 pub solve_stop_says : SolveStopSays
-solve_stop_says = stop_says whole_bands whole_stops whole_spent Solve solve_put
+solve_stop_says = stop_says whole_bands whole_checked whole_stops whole_spent Solve solve_put
 
 -- ---- links
 link_proves : (a : Street) (timing : Option LinkRecord) (bound : ℚ) (verdict : Verdict SitePart) → Proves (kind_of_links a) timing bound verdict → ProvesOf bands_of_links a timing bound verdict
@@ -270,13 +330,15 @@ link_proves a timing bound NoTiming h = h
 link_proves a timing bound (Stopped stop) h = h
 
 links_put : (before now : Outside) (artery certificate : List ℕ) (limit : Option ℕ) (c : Cause) → IsVerdict c → Completes before now (Some (Links artery certificate limit)) c
-    → HasPut bands_of_links link_stops before now artery certificate limit c
+    → HasPut bands_of_links links_checked link_stops before now artery certificate limit c
 links_put before now artery certificate limit c v h =
     let f = verdict_found before.holds before.reads now.reads (Some (Links artery certificate limit)) c h.0 h.1 v h.2 in
     let s = f.finds.2 in
     record {
       street = f.values.0;
       description = f.read.0;
+      lines = h.0;
+      written = h.3.written;
       text = f.finds.0;
       held = (is_put before now certificate f.finds.0 h.0 h.1 f.bytes f.put_is f.finds.1 h.3).0;
       tells = record {
@@ -286,10 +348,16 @@ links_put before now artery certificate limit c v h =
         warrant = link_warrant_of f.values.0 s.found;
         cause_is = s.cause_is;
         proves = link_proves f.values.0 s.found.timing s.found.bound s.found.verdict s.searched.proves;
+        accepted = s.searched.accepted;
         read_back = s.certificate_is.read_back;
         claim_is = refl;
         timing_is = refl;
-        why = stopped_for (link_rules f.values.0) (link_enough_of f.values.0) (IsLinkSiteOf f.values.0) limit s.found.bound s.found.nodes.items (link_incumbent_of f.values.0 s.found.timing) s.found.spent s.found.verdict
+        report = link_timing_lines f.values.0;
+        rest = after_link_value f.values.0;
+        begins = λ t. refl;
+        lines_are = s.lines_are;
+        why = stopped_for (link_rules f.values.0) (link_enough_of f.values.0) (IsLinkSiteOf f.values.0) limit s.found.bound s.found.nodes.items
+            (link_incumbent_of f.values.0 s.found.timing) s.found.spent s.found.verdict
             s.searched.search s.searched.enough s.searched.site;
       };
     }
@@ -298,10 +366,10 @@ links_spent : WholeLimits LinkRecord link_stops
 links_spent a limit timing bound stop h = whole_limit (link_rules a) (link_enough_of a) (IsLinkSiteOf a) limit bound (link_incumbent_of a timing) stop h
 
 pub links_say : LinksSay
-links_say = search_says bands_of_links link_stops links_spent Links links_put
+links_say = search_says bands_of_links links_checked link_stops links_spent Links links_put
 
 pub links_stop_says : LinksStopSays
-links_stop_says = stop_says bands_of_links link_stops links_spent Links links_put
+links_stop_says = stop_says bands_of_links links_checked link_stops links_spent Links links_put
 
 -- ---- hold
 module _ (rules : FailsRulesOut) (before now : Outside) (artery timing : List ℕ) where
@@ -349,6 +417,7 @@ record FoundChecked (k : Sought) (s : Checked k) (before now : Outside) (artery 
   pub text : Reads k.reader (before.holds certificate) warrant
   pub finds : Checks k s street warrant c lines
   pub told : Appends before.taken now.taken lines
+  pub kept : (IsVerdict c → ⊥) → SameFiles before.holds now.holds
 
 module _ (k : Sought) (s : Checked k) (four : AllFour k s) (apart : RefusedApart k s) (before now : Outside) (artery certificate : List ℕ) where
   accepts_of : (a : Street) (w : Value k.reader) (l : List ℕ) → Checks k s a w cause.Done l → Accepts k s a w cause.Done l
@@ -370,7 +439,7 @@ module _ (k : Sought) (s : Checked k) (four : AllFour k s) (apart : RefusedApart
         told = subst (λ (l : List ℕ). Appends before.taken now.taken l) h.lines_are f.told;
       }
 
-  says_rejected : (c : Cause) → number_of c ≡ 4 → FoundChecked k s before now artery certificate c → SaysRejected k s before artery certificate c
+  says_rejected : (c : Cause) → number_of c ≡ 4 → FoundChecked k s before now artery certificate c → SaysRejected k s before now artery certificate c
   says_rejected c e f = let h = rejects_of f.street f.warrant c f.lines e f.finds in
       record {
         street = f.street;
@@ -381,6 +450,7 @@ module _ (k : Sought) (s : Checked k) (four : AllFour k s) (apart : RefusedApart
         first = h.first;
         not_accepted = apart f.street f.warrant h.reject h.first h.kept;
         cause_is = h.cause_is;
+        kept = f.kept (four_refuses c e);
       }
 
 module _ (k : Sought) (s : Checked k) (asks : List ℕ → List ℕ → Request)
@@ -391,7 +461,8 @@ module _ (k : Sought) (s : Checked k) (asks : List ℕ → List ℕ → Request)
     (λ e. says_rejected k s four apart before now artery certificate c e (checked before now artery certificate c (found_four before now (Some (asks artery certificate)) c e h))),
   )
 
-check_found : (before now : Outside) (artery certificate : List ℕ) (c : Cause) → Found before now (Some (Check artery certificate)) c → FoundChecked whole_bands whole_checked before now artery certificate c
+check_found : (before now : Outside) (artery certificate : List ℕ) (c : Cause) → Found before now (Some (Check artery certificate)) c
+    → FoundChecked whole_bands whole_checked before now artery certificate c
 check_found before now artery certificate c f = record {
   street = f.answer.values.0;
   warrant = f.answer.values.1.0;
@@ -400,6 +471,7 @@ check_found before now artery certificate c f = record {
   text = f.answer.read.1.0;
   finds = f.answer.finds;
   told = f.done.written;
+  kept = λ n. found_keeps before now (Some (Check artery certificate)) c n f;
 }
 
 pub check_says : RefusedIsNotAccepted → CheckSays
@@ -415,6 +487,7 @@ check_links_found before now artery certificate c f = record {
   text = f.answer.read.1.0;
   finds = f.answer.finds;
   told = f.done.written;
+  kept = λ n. found_keeps before now (Some (CheckLinks artery certificate)) c n f;
 }
 
 pub check_links_says : LinkRefusedIsNotAccepted → CheckLinksSays

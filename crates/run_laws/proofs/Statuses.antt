@@ -64,7 +64,7 @@ draw_told a None title lines bytes h = let e = h.0 in absurd cc
 draw_told a (Some t) title lines bytes h = h
 
 typed_told : (a : Street) (p : Typed) (lines : List ℕ) (bytes : Option (List ℕ)) → TypedFinds a p cause.Words lines bytes → ⊥
-typed_told a p lines bytes (inl h) = h.finds
+typed_told a p lines bytes (inl h) = let e = h.finds.0 in absurd cc
 typed_told a p lines bytes (inr (inl h)) = let e = h.cause_is in absurd cc
 typed_told a p lines bytes (inr (inr h)) = let e = h.cause_is in absurd cc
 

@@ -1,16 +1,17 @@
 -- Statements about the definitions of a run, each of which a public call proves.
-use Rattle.std.specs.Prelude.{◌≡◌, ◌≢◌, ◌⊎◌, ℕ, ◌≤◌, Bool, true, false, List, [], ◌∷◌, ◌++◌, length, Option, Some, None, Ok, IsSome, IfSome, option_map}
+use Rattle.std.specs.Prelude.{◌≡◌, ◌≢◌, ◌⊎◌, ℕ, ◌≤◌, Bool, true, false, List, [], ◌∷◌, ◌++◌, length, codes, Option, Some, None, Ok, IsSome, IfSome, option_map}
 use Rattle.rational_theory.specs.Rational.{ℚ, ◌≤ℚ◌}
-use Rattle.outer_edge.specs.Counts.{Rose, SameCounts}
-use Rattle.outer_edge.specs.Held.{HoldsExactly}
+use Rattle.outer_edge.specs.Counts.{SameCounts}
+use Rattle.outer_edge.specs.Held.{SameFiles, HoldsExactly}
 use Rattle.outer_edge.specs.Taken.{Appends}
-use Rattle.progression.specs.Street.{Street}
+use Rattle.progression.specs.Street.{Street, count}
 use Rattle.progression.specs.TimingRecord.{TimingRecord}
 use Rattle.progression.specs.Good.{Good}
 use Rattle.progression.specs.Best.{weighted_band}
 use Rattle.time_space.specs.Failing.{Fails}
 use Rattle.time_space.specs.declared.failing.Failing.{Failing}
 use Rattle.certificate_model.specs.Warrants.{Warrant}
+use Rattle.certificate_model.specs.Families.{Table}
 use Rattle.plan_text.specs.SecondText.{second_text}
 use Rattle.plan_text.specs.CertificateReading.{certificate_of}
 use Rattle.certificate_model.specs.declared.certificate.Claim.{Claim}
@@ -19,14 +20,17 @@ use Rattle.branch_and_bound.specs.declared.found.Stop.{Stop}
 use Rattle.branch_and_bound.specs.declared.found.Stop.TheVariants.{Work, Wide}
 use Rattle.branch_tree.specs.declared.site.SitePart.{SitePart}
 use Rattle.branch_tree.specs.Certified.{warrant_of}
+use Rattle.diagram_print.specs.Measures.{measure_line}
+use Rattle.diagram_print.specs.Report.{stop_lines, bound_line}
 use Rattle.multi_band.specs.LinkCertified.{link_warrant_of}
 use Rattle.run_commands.specs.CheckLines.{accepted_line}
 use Rattle.run_commands.specs.Lines.{holds_lines}
 use Rattle.run_inputs.specs.Puts.{NamedBytes}
 use Rattle.maxband_run.specs.Outside.{Outside}
-use Rattle.run_inputs.specs.Command.{Request, Hold, Check, CheckLinks, Solve, Links, Renew, Help, Make, Trial, Sweep, shape}
+use Rattle.run_inputs.specs.Command.{Request, Hold, Check, CheckLinks, Solve, Links, Renew, Help, Sweep, shape, request_of}
 use Rattle.run_inputs.specs.Reading.{Input, Value, most_bytes, IsReadAs, Reads, Describes, AreTold, Description, Timing, Certificate}
 use Rattle.run_commands.specs.Usages.{usage_line, usage_of}
+use Rattle.run_commands.specs.declared.usage.Usage.{Usage}
 use Rattle.run_commands.specs.Sought.{Sought, whole_bands, bands_of_links}
 use Rattle.run_commands.specs.Checked.{Checked, whole_checked, links_checked}
 use Rattle.run_commands.specs.Solve.{IsSolution}
@@ -50,19 +54,30 @@ IsVerdict (cause.Stopped stop) = Unit {0}
 IsVerdict _ = ⊥
 
 -- ---- one answer
--- Two answers to the same words are one. Two of a command that searches may both be verdicts, since of several best timings a search may find any; where it
--- reads no file they are.
-abbrev pub Agree : Bool → List Input → Cause → List ℕ → Cause → List ℕ → Type 0
-Agree false inputs c x d y = (c ≡ d) × (x ≡ y)
-Agree true [] c x d y = IsVerdict c × IsVerdict d
-Agree true (i ∷ is) c x d y = ((c ≡ d) × (x ≡ y)) ⊎ (IsVerdict c × IsVerdict d)
+-- the same bytes are put into the same file, or nothing is; but a table's searches may find other rows
+abbrev pub SamePut : Option Request → Option NamedBytes → Option NamedBytes → Type 0
+SamePut (Some (Sweep artery table limit cycles)) p q = option_map (λ b. b.name) p ≡ option_map (λ b. b.name) q
+SamePut asked p q = p ≡ q
 
--- What files that tell their bytes hold, and the words, leave one answer: so each status but 0, 1 and 2 of `solve`, `links` and `trial`, that of a fault and that of want of
--- memory comes exactly by its cause.
+pub record Same (asked : Option Request) (c : Cause) (x : List ℕ) (p : Option NamedBytes) (d : Cause) (y : List ℕ) (q : Option NamedBytes) : Type 0 where
+  pub cause : c ≡ d
+  pub lines : x ≡ y
+  pub put : SamePut asked p q
+
+-- Two answers to the same words are the same. Two of a command that chooses may both be verdicts, since of several best timings any may be found; where it reads no file
+-- they are.
+abbrev pub Agree : Bool → List Input → Type 0 → Type 0 → Type 0
+Agree false inputs same verdicts = same
+Agree true [] same verdicts = verdicts
+Agree true (i ∷ is) same verdicts = same ⊎ verdicts
+
+-- What files that tell their bytes hold, and the words, leave one answer, its cause, its lines and what it puts: so each status but 0, 1 and 2 of `solve`, `links` and
+-- `trial`, that of a fault and that of want of memory comes exactly by its cause.
 abbrev pub OneAnswer : Type 0
 OneAnswer = (held : List ℕ → Option (List ℕ)) (before after : List ℕ → ℕ) (asked : Option Request) (c d : Cause) (x y : List ℕ) (p q : Option NamedBytes)
     → AreTold held (shape asked).inputs → IsReached c → IsReached d
-    → Answers held before after asked c x p → Answers held before after asked d y q → Agree (shape asked).chooses (shape asked).inputs c x d y
+    → Answers held before after asked c x p → Answers held before after asked d y q
+    → Agree (shape asked).chooses (shape asked).inputs (Same asked c x p d y q) (IsVerdict c × IsVerdict d)
 
 -- ---- faults
 -- Unless the run ends by a fault no count has changed: each failed read, put and write is told.
@@ -71,44 +86,11 @@ FaultsAreTold = (before now : Outside) (asked : Option Request) (c : Cause)
     → Ends before now asked c → ¬ IsFault c
     → SameCounts before.reads now.reads × SameCounts before.puts now.puts × (now.writes ≡ before.writes)
 
--- ---- whole runs
--- Where the file tells bytes that describe an artery, and no read of it, no put of the certificate and no write failed, a search that is asked for so ends with a
--- verdict or by want of memory.
-abbrev pub SearchIsComplete : (List ℕ → List ℕ → Option ℕ → Request) → Type 0
-SearchIsComplete asks = (before now : Outside) (artery certificate : List ℕ) (limit : Option ℕ) (a : Street) (c : Cause)
-    → IsSome (before.holds artery) → Reads Description (before.holds artery) a
-    → ¬ Rose (before.reads artery) (now.reads artery) → ¬ Rose (before.puts certificate) (now.puts certificate) → ¬ Rose before.writes now.writes
-    → Ends before now (Some (asks artery certificate limit)) c → IsVerdict c ⊎ (c ≡ cause.Memory)
+-- A run that ends neither with a verdict nor by a failed put or write leaves every file that tells as it was.
+abbrev pub RefusalsKeepFiles : Type 0
+RefusalsKeepFiles = (before now : Outside) (asked : Option Request) (c : Cause) → Ends before now asked c → ¬ IsVerdict c → c ≢ cause.WriteFault → SameFiles before.holds now.holds
 
-abbrev pub SolveIsComplete : Type 0
-SolveIsComplete = SearchIsComplete Solve
-
-abbrev pub LinksAreComplete : Type 0
-LinksAreComplete = SearchIsComplete Links
-
--- Where no write failed, `make` is done or ends by want of memory.
-abbrev pub MakeIsComplete : Type 0
-MakeIsComplete = (before now : Outside) (signals seed : ℕ) (c : Cause) → ¬ Rose before.writes now.writes → Ends before now (Some (Make signals seed)) c → (c ≡ cause.Done) ⊎ (c ≡ cause.Memory)
-
--- Where no write failed, `trial` ends with a verdict or by want of memory.
-abbrev pub TrialIsComplete : Type 0
-TrialIsComplete = (before now : Outside) (signals seed : ℕ) (limit : Option ℕ) (c : Cause)
-    → ¬ Rose before.writes now.writes → Ends before now (Some (Trial signals seed limit)) c → IsVerdict c ⊎ (c ≡ cause.Memory)
-
--- Where the file tells bytes that describe an artery, and no read of it, no put of the table and no write failed, `sweep` is done or ends by want of memory.
-abbrev pub SweepIsComplete : Type 0
-SweepIsComplete = (before now : Outside) (artery table : List ℕ) (limit : Option ℕ) (cycles : List (List ℕ)) (a : Street) (c : Cause)
-    → IsSome (before.holds artery) → Reads Description (before.holds artery) a
-    → ¬ Rose (before.reads artery) (now.reads artery) → ¬ Rose (before.puts table) (now.puts table) → ¬ Rose before.writes now.writes
-    → Ends before now (Some (Sweep artery table limit cycles)) c → (c ≡ cause.Done) ⊎ (c ≡ cause.Memory)
-
--- Where the file tells bytes that are a certificate, and no read of it, no put of the new file and no write failed, `renew` is done or ends by want of memory.
-abbrev pub RenewIsComplete : Type 0
-RenewIsComplete = (before now : Outside) (certificate new : List ℕ) (w : Warrant) (c : Cause)
-    → IsSome (before.holds certificate) → Reads Certificate (before.holds certificate) w
-    → ¬ Rose (before.reads certificate) (now.reads certificate) → ¬ Rose (before.puts new) (now.puts new) → ¬ Rose before.writes now.writes
-    → Ends before now (Some (Renew certificate new)) c → (c ≡ cause.Done) ⊎ (c ≡ cause.Memory)
-
+-- ---- a search and its check
 -- a search within the limit ends with this cause, these lines, this text and this certificate
 abbrev pub Solves : Sought → Type 1
 Solves k = Street → Option ℕ → Cause → List ℕ → List ℕ → Value k.reader → Type 0
@@ -148,34 +130,54 @@ abbrev pub PutLinksAreAccepted : Type 0
 PutLinksAreAccepted = SearchIsAccepted bands_of_links links_checked links_solve Links CheckLinks
 
 -- ---- what the numbers of the statuses say of the model
--- the file holds, where it is told, a text that is read as a certificate with this claim and this timing
-abbrev pub HoldsCertificate : (k : Sought) → Option (List ℕ) → Claim → Option k.Timing → Type 0
-HoldsCertificate k held claimed timing =
-    (text : List ℕ) × HoldsExactly held text × (w : Value k.reader) × IsReadAs k.reader text w × (k.claim w ≡ claimed) × (k.timing w ≡ timing)
+-- The file holds, where it is told, a text that is read as a certificate with this claim and this timing, and the check of its kind accepts that on the artery.
+pub record HoldsCertificate (k : Sought) (s : Checked k) (a : Street) (held : Option (List ℕ)) (claimed : Claim) (timing : Option k.Timing) : Type 0 where
+  pub text : List ℕ
+  pub warrant : Value k.reader
+  pub put : HoldsExactly held text
+  pub read : IsReadAs k.reader text warrant
+  pub accepted : s.Accepted a warrant
+  pub claim_is : k.claim warrant ≡ claimed
+  pub timing_is : k.timing warrant ≡ timing
 
--- A search with status 0: this timing is best on the described artery, and the file that is put has it, with its value.
-pub record PutsBest (k : Sought) (before now : Outside) (artery certificate : List ℕ) : Type 0 where
+-- the output grew by lines of which these are the first
+abbrev pub TellsFirst : Outside → Outside → List ℕ → Type 0
+TellsFirst before now first = (more : List ℕ) × Appends before.taken now.taken (first ++ more)
+
+-- the line of the value of a timing that is found, or that none is
+abbrev pub value_line : Option ℚ → List ℕ
+value_line None = codes "no timing\n"
+value_line (Some value) = measure_line (codes "weighted") value 6
+
+-- A search with status 0: this timing is best on the described artery, its value is told after the verdict, and the file that is put has it, with its value.
+pub record PutsBest (k : Sought) (s : Checked k) (before now : Outside) (artery certificate : List ℕ) : Type 0 where
   pub street : Street
   pub plan : k.Timing
   pub description : Describes (before.holds artery) street
   pub best : k.Best street plan
-  pub put : HoldsCertificate k (now.holds certificate) (claim.Best (k.value street plan)) (Some plan)
+  pub told : TellsFirst before now (codes "verdict best\n" ++ value_line (Some (k.value street plan)))
+  pub put : HoldsCertificate k s street (now.holds certificate) (claim.Best (k.value street plan)) (Some plan)
 
--- With status 1: no timing is good on the described artery, and the file that is put claims it.
-pub record PutsNone (k : Sought) (before now : Outside) (artery certificate : List ℕ) : Type 0 where
+-- With status 1: no timing is good on the described artery, that alone is told, and the file that is put claims it.
+pub record PutsNone (k : Sought) (s : Checked k) (before now : Outside) (artery certificate : List ℕ) : Type 0 where
   pub street : Street
   pub description : Describes (before.holds artery) street
   pub none : k.NoneGood street
-  pub put : HoldsCertificate k (now.holds certificate) claim.NoTiming None
+  pub told : Appends before.taken now.taken (codes "verdict none\n")
+  pub put : HoldsCertificate k s street (now.holds certificate) claim.NoTiming None
 
 -- a stop by work spent all units of the limit
 abbrev pub IsWholeLimit : Option ℕ → Stop SitePart → Type 0
 IsWholeLimit limit (Work units) = limit ≡ Some units
 IsWholeLimit limit (Wide site) = Unit {0}
 
--- With status 2: no good timing of the described artery has a value above the bound, a timing that stands is good and no better than that, the file that is put has
--- both, and the cause is why the search stopped: by work only where the whole limit was spent.
-pub record PutsBound (k : Sought) (before now : Outside) (artery certificate : List ℕ) (limit : Option ℕ) (c : Cause) : Type 0 where
+-- the verdict of a search that stopped, why it did, the bound, and the value of the timing that stands
+abbrev pub open_lines : Table → Street → Stop SitePart → ℚ → Option ℚ → List ℕ
+open_lines table a stop bound value = codes "verdict open\n" ++ (stop_lines table (count a) stop ++ (bound_line bound ++ value_line value))
+
+-- With status 2: no good timing of the described artery has a value above the bound, a timing that stands is good and no better than that, these are told, the file that
+-- is put has both, and the cause is why the search stopped: by work only where the whole limit was spent.
+pub record PutsBound (k : Sought) (s : Checked k) (before now : Outside) (artery certificate : List ℕ) (limit : Option ℕ) (c : Cause) : Type 0 where
   pub street : Street
   pub bound : ℚ
   pub timing : Option k.Timing
@@ -183,28 +185,35 @@ pub record PutsBound (k : Sought) (before now : Outside) (artery certificate : L
   pub description : Describes (before.holds artery) street
   pub bounded : k.Bounded street bound
   pub good : IfSome timing (λ plan. k.Good street plan × (k.value street plan ≤ℚ bound))
-  pub put : HoldsCertificate k (now.holds certificate) (claim.Stopped bound (option_map (k.value street) timing)) timing
+  pub told : TellsFirst before now (open_lines s.table street stop bound (option_map (k.value street) timing))
+  pub put : HoldsCertificate k s street (now.holds certificate) (claim.Stopped bound (option_map (k.value street) timing)) timing
   pub cause_is : c ≡ cause.Stopped stop
   pub whole_limit : IsWholeLimit limit stop
 
 -- what the statuses of a command say that is asked for so and searches for this
-abbrev pub SearchSays : Sought → (List ℕ → List ℕ → Option ℕ → Request) → Type 0
-SearchSays k asks = (before now : Outside) (artery certificate : List ℕ) (limit : Option ℕ) (c : Cause) → Ends before now (Some (asks artery certificate limit)) c
-    → (number_of c ≡ 0 → PutsBest k before now artery certificate)
-    × (number_of c ≡ 1 → PutsNone k before now artery certificate)
-    × (number_of c ≡ 2 → PutsBound k before now artery certificate limit c)
+abbrev pub SearchSays : (k : Sought) → Checked k → (List ℕ → List ℕ → Option ℕ → Request) → Type 0
+SearchSays k s asks = (before now : Outside) (artery certificate : List ℕ) (limit : Option ℕ) (c : Cause) → Ends before now (Some (asks artery certificate limit)) c
+    → (number_of c ≡ 0 → PutsBest k s before now artery certificate)
+    × (number_of c ≡ 1 → PutsNone k s before now artery certificate)
+    × (number_of c ≡ 2 → PutsBound k s before now artery certificate limit c)
 
 abbrev pub SolveSays : Type 0
-SolveSays = SearchSays whole_bands Solve
+SolveSays = SearchSays whole_bands whole_checked Solve
 
 abbrev pub LinksSay : Type 0
-LinksSay = SearchSays bands_of_links Links
+LinksSay = SearchSays bands_of_links links_checked Links
 
--- `--help` with status 0: the usage by which this is asked for has its line in what was written
+-- the line of a usage begins with the program's name and this word
+pub record IsNamedBy (usage : Usage) (word : List ℕ) : Type 0 where
+  pub more : List ℕ
+  pub line : usage_line usage ≡ codes "maxband " ++ (word ++ 32 ∷ more)
+
+-- `--help` with status 0: the usage by which this is asked for has its line in what was written, which begins with the first of any words that ask for it
 pub record TellsUsage (before now : Outside) (asked : Request) : Type 0 where
   pub front : List ℕ
   pub back : List ℕ
   pub told : Appends before.taken now.taken (front ++ (usage_line (usage_of asked) ++ back))
+  pub word : (first : List ℕ) (more : List (List ℕ)) → request_of (first ∷ more) ≡ Some asked → IsNamedBy (usage_of asked) first
 
 -- so of each request
 abbrev pub HelpSays : Type 0
@@ -243,8 +252,8 @@ pub record SaysAccepted (k : Sought) (s : Checked k) (before now : Outside) (art
   pub proves : s.Proves street warrant
   pub told : Appends before.taken now.taken (accepted_line (k.claim warrant))
 
--- a check with status 4: the certificate isn't accepted, and this is its first refusal
-pub record SaysRejected (k : Sought) (s : Checked k) (before : Outside) (artery certificate : List ℕ) (c : Cause) : Type 0 where
+-- a check with status 4: the certificate isn't accepted, this is its first refusal, and no file has changed
+pub record SaysRejected (k : Sought) (s : Checked k) (before now : Outside) (artery certificate : List ℕ) (c : Cause) : Type 0 where
   pub street : Street
   pub warrant : Value k.reader
   pub reject : s.Reject
@@ -253,11 +262,12 @@ pub record SaysRejected (k : Sought) (s : Checked k) (before : Outside) (artery 
   pub first : s.First street warrant reject
   pub not_accepted : ¬ s.Accepted street warrant
   pub cause_is : c ≡ s.cause reject
+  pub kept : SameFiles before.holds now.holds
 
 -- what the statuses of a command say that is asked for so and checks these
 abbrev pub SaysChecked : (k : Sought) → Checked k → (List ℕ → List ℕ → Request) → Type 0
 SaysChecked k s asks = (before now : Outside) (artery certificate : List ℕ) (c : Cause) → Ends before now (Some (asks artery certificate)) c
-    → (number_of c ≡ 0 → SaysAccepted k s before now artery certificate) × (number_of c ≡ 4 → SaysRejected k s before artery certificate c)
+    → (number_of c ≡ 0 → SaysAccepted k s before now artery certificate) × (number_of c ≡ 4 → SaysRejected k s before now artery certificate c)
 
 abbrev pub CheckSays : Type 0
 CheckSays = SaysChecked whole_bands whole_checked Check

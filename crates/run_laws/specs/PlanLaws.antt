@@ -1,11 +1,12 @@
 -- What the statuses of `bands`, `half`, `timing`, `round`, `draw` and `sweep` say of the model: statements about the definitions of a run, each of which a public call proves.
-use Rattle.std.specs.Prelude.{◌≡◌, ◌≢◌, ◌⊎◌, ℕ, ◌≤◌, List, ◌++◌, length, codes, Option, None, Some, Ok, IsSome, IfSome}
+use Rattle.std.specs.Prelude.{◌≡◌, ◌≢◌, ◌⊎◌, ℕ, ◌-◌, ◌≤◌, List, ◌++◌, length, slice_index, codes, Option, None, Some, Ok, IsSome, IfSome}
 use Rattle.std.specs.List.{AllZip}
 use Rattle.rational_theory.specs.Rational.{ℚ, ◌+ℚ◌, ◌≤ℚ◌}
 use Rattle.outer_edge.specs.Counts.{Rose}
 use Rattle.outer_edge.specs.Held.{SameFiles, HoldsExactly}
 use Rattle.outer_edge.specs.Taken.{Appends}
-use Rattle.progression.specs.Street.{Street, count}
+use Rattle.progression.specs.Street.{Street, count, HasSignal}
+use Rattle.progression.specs.Speeds.{number}
 use Rattle.progression.specs.TimingRecord.{TimingRecord}
 use Rattle.progression.specs.Good.{Good, IsBase}
 use Rattle.progression.specs.Best.{weighted_band}
@@ -13,21 +14,25 @@ use Rattle.progression.specs.declared.parts.Dir.TheVariants.{Outbound, Inbound}
 use Rattle.time_space.specs.Failing.{Fails}
 use Rattle.time_space.specs.declared.failing.Failing.{Failing}
 use Rattle.time_space.specs.declared.failing.Failing.TheVariants as rule
+use Rattle.band_measure.specs.Widest.{IsWidestBand}
 use Rattle.band_measure.specs.declared.pair.Widest.{Widest}
 use Rattle.mirror_theory.specs.EqualBands.{HasNone, IsHalfCycleBest}
 use Rattle.half_integer.specs.Answers as half
 use Rattle.half_integer.specs.declared.end.HalfEnd.{HalfEnd}
-use Rattle.second_plan.specs.Planned.{IsBestOfOffsets}
+use Rattle.timing_measures.specs.Measures.{cycle_seconds, offset}
+use Rattle.second_plan.specs.Planned.{IsPlanned, IsBestOfOffsets}
 use Rattle.second_plan.specs.declared.answer.PlanEnd.{PlanEnd}
 use Rattle.second_plan.specs.declared.answer.PlanEnd.TheVariants as end
-use Rattle.diagram_print.specs.Measures.{weighted_line}
 use Rattle.half_integer.specs.declared.end.HalfEnd.TheVariants as half_end
 use Rattle.artery_model.specs.declared.kind.Refusal.{Refusal}
 use Rattle.description_reader.specs.Typed.{Typed}
 use Rattle.typed_plan.specs.Ends.{IsTimingOf, Refuses}
+use Rattle.typed_plan.specs.declared.timing.Measured.{Measured}
 use Rattle.typed_plan.specs.declared.timing.TypedFault.TheVariants as fault
 use Rattle.diagram_draw.specs.Pages.{drawing, svg_text}
 use Rattle.certificate_model.specs.Warrants.{Warrant}
+use Rattle.certificate_model.specs.declared.certificate.Claim.{Claim}
+use Rattle.certificate_model.specs.declared.certificate.Claim.TheVariants as claim
 use Rattle.plan_text.specs.Spelling.{timing_text}
 use Rattle.plan_text.specs.Reading.{timing_of}
 use Rattle.certificate_checker.specs.Accepted.{IsAccepted}
@@ -37,17 +42,19 @@ use Rattle.cycle_sweep.specs.Says.{SaysRow}
 use Rattle.cycle_sweep.specs.Table.{row_fields, sweep_text}
 use Rattle.run_inputs.specs.Cycles.{AreCycles}
 use Rattle.maxband_run.specs.Outside.{Outside}
-use Rattle.run_inputs.specs.Command.{Hold, Bands, Round, RoundFrom, Half, TimingOf, Draw, Sweep, shape}
+use Rattle.run_inputs.specs.Command.{Hold, Check, Bands, Round, RoundFrom, Half, TimingOf, Draw, Sweep, shape}
 use Rattle.run_inputs.specs.Reading.{most_bytes, Reads, Description, Timing, Certificate, Timed, TypedPlan, StopsReading}
-use Rattle.run_commands.specs.Bands.{IsWidestBand, widest_line, IsMeasured}
+use Rattle.run_commands.specs.Bands.{widest_line}
+use Rattle.run_commands.specs.Hold.{IsJudged, verdict_line}
+use Rattle.run_commands.specs.Typed.{measured_lines}
 use Rattle.run_commands.specs.Half.{half_lines}
 use Rattle.run_commands.specs.Round.{plan_lines, Unplans}
-use Rattle.run_commands.specs.Draw.{IsBroken, drawn_lines}
+use Rattle.run_commands.specs.Draw.{drawn_lines}
 use Rattle.run_commands.specs.Sweep.{rows_line}
 use Rattle.run_commands.specs.Sought.{whole_bands}
 use Rattle.run_commands.specs.Checked.{whole_checked}
 use Rattle.maxband_run.specs.Run.{Ends}
-use Rattle.run_laws.specs.Laws.{SaysRejected}
+use Rattle.run_laws.specs.Laws.{SaysAccepted, SaysRejected}
 use Rattle.run_inputs.specs.Status.{number_of, IsReached}
 use Rattle.run_inputs.specs.declared.cause.Cause.{Cause}
 use Rattle.run_inputs.specs.declared.cause.Cause.TheVariants as cause
@@ -67,8 +74,8 @@ pub record SaysWidest (before now : Outside) (artery timing : List ℕ) : Type 0
   pub inbound_is : IsWidestBand street plan Inbound inbound
   pub told : Appends before.taken now.taken (widest_line street plan Outbound outbound ++ widest_line street plan Inbound inbound)
 
--- `bands` and `half` with status 4: this rule that speaks of no band fails
-pub record SaysNoBase (before : Outside) (artery timing : List ℕ) (c : Cause) : Type 0 where
+-- `bands` and `half` with status 4: this rule that speaks of no band fails, and no file has changed
+pub record SaysNoBase (before now : Outside) (artery timing : List ℕ) (c : Cause) : Type 0 where
   pub street : Street
   pub plan : TimingRecord
   pub failing : Failing
@@ -77,10 +84,11 @@ pub record SaysNoBase (before : Outside) (artery timing : List ℕ) (c : Cause) 
   pub fails : Fails street plan failing
   pub not_base : ¬ IsBase street plan
   pub cause_is : c ≡ cause.Fails failing
+  pub kept : SameFiles before.holds now.holds
 
 abbrev pub BandsSay : Type 0
 BandsSay = (before now : Outside) (artery timing : List ℕ) (c : Cause) → Ends before now (Some (Bands artery timing)) c
-    → (number_of c ≡ 0 → SaysWidest before now artery timing) × (number_of c ≡ 4 → SaysNoBase before artery timing c)
+    → (number_of c ≡ 0 → SaysWidest before now artery timing) × (number_of c ≡ 4 → SaysNoBase before now artery timing c)
 
 -- ---- half
 -- a timing with the widest equal bands over all offsets on all grids is put and told
@@ -106,8 +114,8 @@ pub record SaysHalf (before now : Outside) (artery timing new : List ℕ) : Type
   pub base : IsBase street plan
   pub found : SaysNoHalf before now street plan ⊎ PutsHalf before now street plan new
 
--- `half` with status 11: the timing can have no half-cycle plan, for this first reason
-pub record SaysUnmatched (before : Outside) (artery timing : List ℕ) (c : Cause) : Type 0 where
+-- `half` with status 11: the timing can have no half-cycle plan, for this first reason, and no file has changed
+pub record SaysUnmatched (before now : Outside) (artery timing : List ℕ) (c : Cause) : Type 0 where
   pub street : Street
   pub plan : TimingRecord
   pub reason : HalfEnd
@@ -117,30 +125,44 @@ pub record SaysUnmatched (before : Outside) (artery timing : List ℕ) (c : Caus
   pub first : half.Ends street plan reason
   pub not_ready : ¬ half.IsReady street plan
   pub cause_is : c ≡ cause.Unmatched reason
+  pub kept : SameFiles before.holds now.holds
 
 abbrev pub HalfSays : Type 0
 HalfSays = (before now : Outside) (artery timing new : List ℕ) (c : Cause) → Ends before now (Some (Half artery timing new)) c
-    → (number_of c ≡ 0 → SaysHalf before now artery timing new) × (number_of c ≡ 4 → SaysNoBase before artery timing c) × (number_of c ≡ 11 → SaysUnmatched before artery timing c)
+    → (number_of c ≡ 0 → SaysHalf before now artery timing new) × (number_of c ≡ 4 → SaysNoBase before now artery timing c) × (number_of c ≡ 11 → SaysUnmatched before now artery timing c)
 
 -- ---- round
--- `round` with status 0: the file that is put holds, where it is told, the text of a timing that is good on the described artery and is read back. No good timing with its
--- offsets, patterns, runs and cycle has a greater weighted band on its grid (on a finer one, some may), and none at all has one that is greater by more than the loss.
-pub record PutsPlan (before now : Outside) (artery plan : List ℕ) : Type 0 where
-  pub street : Street
+-- A plan in whole seconds of a given timing is put: the file holds, where it is told, the text of a timing that is good on the described artery and is read back. Its cycle
+-- and its offsets are those of the given timing, rounded, and are told with its bands and the loss. No good timing with its offsets, patterns, runs and cycle has a greater
+-- weighted band on its grid (on a finer one, some may), and none at all has one that is greater by more than the loss.
+pub record PutsPlan (before now : Outside) (a : Street) (given : TimingRecord) (plan : List ℕ) : Type 0 where
   pub timing : TimingRecord
   pub seconds : ℕ
   pub offsets : List ℕ
   pub loss : ℚ
-  pub description : Reads Description (before.holds artery) street
-  pub good : Good street timing
-  pub best : IsBestOfOffsets street timing
-  pub lost : (s : TimingRecord) → Good street s → weighted_band street s ≤ℚ (weighted_band street timing +ℚ loss)
+  pub planned : IsPlanned a given seconds offsets timing
+  pub cycle_is : cycle_seconds a timing ≡ number seconds
+  pub offsets_are : (i : ℕ) → HasSignal a i → offset a timing i ≡ number (slice_index offsets (i - 1))
+  pub good : Good a timing
+  pub best : IsBestOfOffsets a timing
+  pub lost : (s : TimingRecord) → Good a s → weighted_band a s ≤ℚ (weighted_band a timing +ℚ loss)
   pub put : HoldsExactly (now.holds plan) (timing_text timing)
   pub read_back : timing_of (timing_text timing) ≡ Ok timing
-  pub told : Appends before.taken now.taken (plan_lines street seconds offsets timing loss)
+  pub told : Appends before.taken now.taken (plan_lines a seconds offsets timing loss)
 
--- `round` with status 10: the certificate is accepted, and no plan is made of it, for this first reason
-pub record SaysUnplanned (before : Outside) (artery certificate : List ℕ) (c : Cause) : Type 0 where
+-- `round` with status 0: so of the timing of the certificate, which is accepted
+pub record PutsOwnPlan (before now : Outside) (artery certificate plan : List ℕ) : Type 0 where
+  pub street : Street
+  pub warrant : Warrant
+  pub given : TimingRecord
+  pub description : Reads Description (before.holds artery) street
+  pub text : Reads Certificate (before.holds certificate) warrant
+  pub accepted : IsAccepted street warrant
+  pub given_is : warrant.timing ≡ Some given
+  pub puts : PutsPlan before now street given plan
+
+-- with status 10: the certificate is accepted, no plan is made of it, for this first reason, and no file has changed
+pub record SaysUnplanned (before now : Outside) (artery certificate : List ℕ) (c : Cause) : Type 0 where
   pub street : Street
   pub warrant : Warrant
   pub reason : PlanEnd
@@ -149,13 +171,16 @@ pub record SaysUnplanned (before : Outside) (artery certificate : List ℕ) (c :
   pub accepted : IsAccepted street warrant
   pub first : Unplans street warrant warrant.timing reason
   pub cause_is : c ≡ cause.Unplanned reason
+  pub kept : SameFiles before.holds now.holds
 
 abbrev pub RoundSays : Type 0
 RoundSays = (before now : Outside) (artery certificate plan : List ℕ) (c : Cause) → Ends before now (Some (Round artery certificate plan)) c
-    → (number_of c ≡ 0 → PutsPlan before now artery plan) × (number_of c ≡ 4 → SaysRejected whole_bands whole_checked before artery certificate c) × (number_of c ≡ 10 → SaysUnplanned before artery certificate c)
+    → (number_of c ≡ 0 → PutsOwnPlan before now artery certificate plan)
+    × (number_of c ≡ 4 → SaysRejected whole_bands whole_checked before now artery certificate c)
+    × (number_of c ≡ 10 → SaysUnplanned before now artery certificate c)
 
--- `round-from` with status 4: this rule fails, so that the timing isn't good
-pub record SaysFailing (before : Outside) (artery timed : List ℕ) (c : Cause) : Type 0 where
+-- `round-from` with status 4: this rule fails, so that the timing isn't good, and no file has changed
+pub record SaysFailing (before now : Outside) (artery timed : List ℕ) (c : Cause) : Type 0 where
   pub street : Street
   pub timing : TimingRecord
   pub failing : Failing
@@ -164,9 +189,21 @@ pub record SaysFailing (before : Outside) (artery timed : List ℕ) (c : Cause) 
   pub fails : Fails street timing failing
   pub not_good : ¬ Good street timing
   pub cause_is : c ≡ cause.Fails failing
+  pub kept : SameFiles before.holds now.holds
 
--- `round-from` with status 10: the certificate is accepted, and no plan is made of the other timing, for this first reason
-pub record SaysUnplannedFrom (before : Outside) (artery certificate other : List ℕ) (c : Cause) : Type 0 where
+-- `round-from` with status 0: a plan of the other timing is put, and the certificate, from whose claim the loss is counted, is accepted
+pub record PutsOtherPlan (before now : Outside) (artery certificate other plan : List ℕ) : Type 0 where
+  pub street : Street
+  pub warrant : Warrant
+  pub given : TimingRecord
+  pub description : Reads Description (before.holds artery) street
+  pub text : Reads Certificate (before.holds certificate) warrant
+  pub accepted : IsAccepted street warrant
+  pub given_is : Reads Timed (before.holds other) (Some given)
+  pub puts : PutsPlan before now street given plan
+
+-- with status 10: the certificate is accepted, no plan is made of the other timing, for this first reason, and no file has changed
+pub record SaysUnplannedFrom (before now : Outside) (artery certificate other : List ℕ) (c : Cause) : Type 0 where
   pub street : Street
   pub warrant : Warrant
   pub given : Option TimingRecord
@@ -177,32 +214,15 @@ pub record SaysUnplannedFrom (before : Outside) (artery certificate other : List
   pub accepted : IsAccepted street warrant
   pub first : Unplans street warrant given reason
   pub cause_is : c ≡ cause.Unplanned reason
+  pub kept : SameFiles before.holds now.holds
 
 abbrev pub RoundFromSays : Type 0
 RoundFromSays = (before now : Outside) (artery certificate other plan : List ℕ) (c : Cause) → Ends before now (Some (RoundFrom artery certificate other plan)) c
-    → (number_of c ≡ 0 → PutsPlan before now artery plan)
-    × (number_of c ≡ 4 → SaysRejected whole_bands whole_checked before artery certificate c ⊎ SaysFailing before artery other c)
-    × (number_of c ≡ 10 → SaysUnplannedFrom before artery certificate other c)
+    → (number_of c ≡ 0 → PutsOtherPlan before now artery certificate other plan)
+    × (number_of c ≡ 4 → SaysRejected whole_bands whole_checked before now artery certificate c ⊎ SaysFailing before now artery other c)
+    × (number_of c ≡ 10 → SaysUnplannedFrom before now artery certificate other c)
 
--- a plan is made, the certificate is rejected, the other timing breaks a rule, or no plan is made of it
-abbrev pub IsRoundingEnd : Cause → Type 0
-IsRoundingEnd cause.Done = Unit {0}
-IsRoundingEnd (cause.Rejected r) = Unit {0}
-IsRoundingEnd (cause.Fails f) = Unit {0}
-IsRoundingEnd (cause.Unplanned e) = Unit {0}
-IsRoundingEnd c = ⊥
-
--- Where the files tell bytes that describe an artery, are a certificate, and are a timing or a certificate, and no read of them, no put of the plan and no write failed, the
--- run ends so, or by want of memory.
-abbrev pub RoundFromIsComplete : Type 0
-RoundFromIsComplete = (before now : Outside) (artery certificate other plan : List ℕ) (a : Street) (w : Warrant) (o : Option TimingRecord) (c : Cause)
-    → IsSome (before.holds artery) → IsSome (before.holds certificate) → IsSome (before.holds other)
-    → Reads Description (before.holds artery) a → Reads Certificate (before.holds certificate) w → Reads Timed (before.holds other) o
-    → ¬ Rose (before.reads artery) (now.reads artery) → ¬ Rose (before.reads certificate) (now.reads certificate) → ¬ Rose (before.reads other) (now.reads other)
-    → ¬ Rose (before.puts plan) (now.puts plan) → ¬ Rose before.writes now.writes
-    → Ends before now (Some (RoundFrom artery certificate other plan)) c → IsRoundingEnd c ⊎ (c ≡ cause.Memory)
-
--- So a run of `hold` over the same description and the file that was put accepts it, unless a fault or want of memory ends it: where these are two files that tell
+-- A run of `hold` over the same description and the file that `round` put accepts it, unless a fault or want of memory ends it: where these are two files that tell
 -- their bytes, and the plan isn't too long to be read.
 abbrev pub PlanIsHeld : Type 0
 PlanIsHeld = (before between now : Outside) (artery certificate plan : List ℕ) (c d : Cause)
@@ -210,20 +230,20 @@ PlanIsHeld = (before between now : Outside) (artery certificate plan : List ℕ)
     → number_of c ≡ 0 → Ends before between (Some (Round artery certificate plan)) c → IsReached d → Ends between now (Some (Hold artery plan)) d → d ≡ cause.Done
 
 -- ---- timing
--- `timing` with status 0: the file that is put holds, where it is told, the text of the timing of the typed plan, which keeps the rules that speak of no band and is read
--- back; its widest bands and its weighted band were told
+-- `timing` with status 0: the file that is put holds, where it is told, the text of the timing of the typed plan, whichever rules it breaks, and is read back; its bands and
+-- its weighted band were told, and then the first rule that it breaks, or that it holds
 pub record PutsTyped (before now : Outside) (artery plan timing : List ℕ) : Type 0 where
   pub street : Street
   pub typed : Typed
-  pub made : TimingRecord
-  pub bands : List ℕ
+  pub made : Measured
+  pub broken : Option Failing
   pub description : Reads Description (before.holds artery) street
   pub text : Reads TypedPlan (before.holds plan) typed
   pub made_is : IsTimingOf street typed made
-  pub measured : IsMeasured street made bands
-  pub put : HoldsExactly (now.holds timing) (timing_text made)
-  pub read_back : timing_of (timing_text made) ≡ Ok made
-  pub told : Appends before.taken now.taken (bands ++ weighted_line street made)
+  pub judged : IsJudged street made.timing broken
+  pub put : HoldsExactly (now.holds timing) (timing_text made.timing)
+  pub read_back : timing_of (timing_text made.timing) ≡ Ok made.timing
+  pub told : Appends before.taken now.taken (measured_lines street made ++ verdict_line broken)
 
 -- with status 3: one of the two files isn't read
 pub record StopsTyped (before now : Outside) (artery plan timing : List ℕ) (c : Cause) : Type 0 where
@@ -242,20 +262,6 @@ pub record SaysMiscounted (before now : Outside) (artery plan : List ℕ) (c : C
   pub cause_is : c ≡ cause.Refused refusal
   pub kept : SameFiles before.holds now.holds
 
--- with status 4: the plan's timing breaks this rule that speaks of no band
-pub record SaysBroken (before now : Outside) (artery plan : List ℕ) (c : Cause) : Type 0 where
-  pub street : Street
-  pub typed : Typed
-  pub made : TimingRecord
-  pub failing : Failing
-  pub description : Reads Description (before.holds artery) street
-  pub text : Reads TypedPlan (before.holds plan) typed
-  pub made_is : IsTimingOf street typed made
-  pub fails : Fails street made failing
-  pub not_base : ¬ IsBase street made
-  pub cause_is : c ≡ cause.Fails failing
-  pub kept : SameFiles before.holds now.holds
-
 -- with status 11: so many ticks are past the limit of a timing
 pub record SaysTooFine (before now : Outside) (artery plan : List ℕ) (c : Cause) : Type 0 where
   pub street : Street
@@ -271,14 +277,32 @@ abbrev pub TimingSays : Type 0
 TimingSays = (before now : Outside) (artery plan timing : List ℕ) (c : Cause) → Ends before now (Some (TimingOf artery plan timing)) c
     → (number_of c ≡ 0 → PutsTyped before now artery plan timing)
     × (number_of c ≡ 3 → StopsTyped before now artery plan timing c ⊎ SaysMiscounted before now artery plan c)
-    × (number_of c ≡ 4 → SaysBroken before now artery plan c)
+    × (number_of c ≡ 4 → ⊥)
     × (number_of c ≡ 11 → SaysTooFine before now artery plan c)
 
--- a timing is put, the plan isn't of the artery, its timing breaks a rule, or it has too many ticks
+-- what a claim bounds: the best value, or the bound where the search stopped; where there is no good timing, none has a value
+abbrev pub IsWithin : Claim → ℚ → Type 0
+IsWithin (claim.Best best) value = value ≤ℚ best
+IsWithin claim.NoTiming value = ⊥
+IsWithin (claim.Stopped bound found) value = value ≤ℚ bound
+
+-- a plan that `timing` told to hold is worth no more than what a certificate that `check` accepted bounds
+pub record IsWorthNoMore (before now checked_before checked_now : Outside) (artery plan timing certificate : List ℕ) : Type 0 where
+  pub put : PutsTyped before now artery plan timing
+  pub accepted : SaysAccepted whole_bands whole_checked checked_before checked_now artery certificate
+  pub same : accepted.street ≡ put.street
+  pub within : put.broken ≡ None → IsWithin accepted.warrant.claim (weighted_band put.street put.made.timing)
+
+-- So wherever both have status 0 over the same description.
+abbrev pub TimingIsBounded : Type 0
+TimingIsBounded = (before now checked_before checked_now : Outside) (artery plan timing certificate : List ℕ) (c d : Cause) → IsSome (before.holds artery) → checked_before.holds artery ≡ before.holds artery
+    → Ends before now (Some (TimingOf artery plan timing)) c → number_of c ≡ 0 → Ends checked_before checked_now (Some (Check artery certificate)) d → number_of d ≡ 0
+    → IsWorthNoMore before now checked_before checked_now artery plan timing certificate
+
+-- a timing is put, the plan isn't of the artery, or it has too many ticks
 abbrev pub IsTypedEnd : Cause → Type 0
 IsTypedEnd cause.Done = Unit {0}
 IsTypedEnd (cause.Refused r) = Unit {0}
-IsTypedEnd (cause.Fails f) = Unit {0}
 IsTypedEnd (cause.Unmatched (half_end.TooFine ticks)) = Unit {0}
 IsTypedEnd c = ⊥
 
@@ -299,7 +323,7 @@ pub record PutsPicture (before now : Outside) (artery timed picture : List ℕ) 
   pub description : Reads Description (before.holds artery) street
   pub text : Reads Timed (before.holds timed) (Some timing)
   pub shape : length timing.patterns ≡ count street
-  pub broken_is : IsBroken street timing broken
+  pub judged : IsJudged street timing broken
   pub put : HoldsExactly (now.holds picture) (svg_text (drawing street timing title))
   pub told : Appends before.taken now.taken (drawn_lines broken)
 
@@ -313,7 +337,7 @@ pub record SaysUnshaped (before now : Outside) (artery timed : List ℕ) (c : Ca
   pub cause_is : c ≡ cause.Fails rule.Shape
   pub kept : SameFiles before.holds now.holds
 
--- with status 10: the second file is a certificate without a timing
+-- with status 10: the second file is a certificate without a timing, and no file has changed
 pub record SaysUntimed (before now : Outside) (artery timed : List ℕ) (c : Cause) : Type 0 where
   pub street : Street
   pub description : Reads Description (before.holds artery) street

@@ -27,6 +27,7 @@ use Rattle.cycle_sweep.specs.declared.row.SweepRow.TheVariants as row
 use Rattle.maxband_run.specs.Outside.{Outside}
 use Rattle.run_inputs.specs.Command.{Request, Solve, Links, Trial, Sweep}
 use Rattle.run_commands.specs.Sought.{Sought, whole_bands, bands_of_links}
+use Rattle.run_commands.specs.Checked.{Checked, whole_checked, links_checked}
 use Rattle.maxband_run.specs.Run.{Ends}
 use Rattle.run_laws.specs.Laws.{PutsBound}
 use Rattle.run_laws.specs.PlanLaws.{PutsTable}
@@ -59,15 +60,15 @@ abbrev pub link_stops : SearchStops LinkRecord
 link_stops a limit timing bound stop = StopsFor (link_rules a) (link_enough_of a) (IsLinkSiteOf a) limit (link_incumbent_of a timing) bound stop
 
 -- a search with status 2: what it put, and why it stopped with that bound and that timing
-abbrev pub StopSays : (k : Sought) → SearchStops k.Timing → (List ℕ → List ℕ → Option ℕ → Request) → Type 0
-StopSays k stops asks = (before now : Outside) (artery certificate : List ℕ) (limit : Option ℕ) (c : Cause) → Ends before now (Some (asks artery certificate limit)) c
-    → number_of c ≡ 2 → (p : PutsBound k before now artery certificate limit c) × stops p.street limit p.timing p.bound p.stop
+abbrev pub StopSays : (k : Sought) → Checked k → SearchStops k.Timing → (List ℕ → List ℕ → Option ℕ → Request) → Type 0
+StopSays k s stops asks = (before now : Outside) (artery certificate : List ℕ) (limit : Option ℕ) (c : Cause) → Ends before now (Some (asks artery certificate limit)) c
+    → number_of c ≡ 2 → (p : PutsBound k s before now artery certificate limit c) × stops p.street limit p.timing p.bound p.stop
 
 abbrev pub SolveStopSays : Type 0
-SolveStopSays = StopSays whole_bands whole_stops Solve
+SolveStopSays = StopSays whole_bands whole_checked whole_stops Solve
 
 abbrev pub LinksStopSays : Type 0
-LinksStopSays = StopSays bands_of_links link_stops Links
+LinksStopSays = StopSays bands_of_links links_checked link_stops Links
 
 -- ---- searches without a limit
 abbrev pub IsUnlimited : Request → Type 0

@@ -1,6 +1,6 @@
 //! The laws of plans, bands, pictures and tables.
 
-ghost use Rattle.run_laws.specs.PlanLaws.{BandsSay, HalfSays, RoundSays, RoundFromSays, RoundFromIsComplete, TimingSays, TimingIsComplete, DrawSays};
+ghost use Rattle.run_laws.specs.PlanLaws.{BandsSay, HalfSays, RoundSays, RoundFromSays, TimingSays, TimingIsBounded, TimingIsComplete, DrawSays};
 ghost use Rattle.run_laws.specs.PlanLaws.{DrawIsComplete, SweepSays, PlanIsHeld};
 
 /// A law over the definitions: after status 0 of `bands` the widest bands on the timing's offsets were printed, and after 4 a rule
@@ -11,7 +11,7 @@ pub fn law_bands_say()
 
 /// A law over the definitions: after status 0 of `half` the file that it put has a timing with the widest equal bands over all
 /// offsets, or there are none on any grid and nothing was put; after 4 a rule fails that speaks of no band, and after 11 the timing
-/// can have no such plan.
+/// can have no such plan; no file changed.
 pub fn law_half_says()
     ensures { HalfSays }
 {
@@ -19,8 +19,9 @@ pub fn law_half_says()
 }
 
 /// A law over the definitions: after status 0 of `round` the file that it put holds the text of a timing that is good on the
-/// described artery and, on its grid, the best with its offsets, and no good timing is better by more than the printed loss; after
-/// 4 the certificate isn't accepted, and after 10 no plan is made of it.
+/// described artery and, on its grid, the best with its offsets, and no good timing is better by more than the printed loss. Its cycle
+/// and offsets, which are printed, are those of the certificate's timing, rounded to seconds. After 4 the certificate isn't accepted,
+/// and after 10 no plan is made of it; no file changed.
 pub fn law_round_says()
     ensures { RoundSays }
 {
@@ -28,8 +29,9 @@ pub fn law_round_says()
 }
 
 /// A law over the definitions: after status 0 of `round-from` the file that it put holds the text of a timing that is good on the described
-/// artery and, on its grid, the best with its offsets, and no good timing is better by more than the printed loss; after 4 the certificate
-/// isn't accepted, or the rule that the cause names fails, and after 10 no plan is made of the other timing.
+/// artery and, on its grid, the best with its offsets, and no good timing is better by more than the printed loss. Its cycle and offsets,
+/// which are printed, are those of the other timing, rounded to seconds. After 4 the certificate isn't accepted, or the rule that the
+/// cause names fails, and after 10 no plan is made of the other timing; no file changed.
 pub fn law_round_from_says()
     ensures { RoundFromSays }
 {
@@ -37,25 +39,26 @@ pub fn law_round_from_says()
     time_space::law_fails_rules_out();
 }
 
-/// A law over the definitions: where the files of `round-from` are a description of an artery, a certificate, and a timing or a
-/// certificate, and no fault is counted, a plan is put, the certificate is rejected, the timing breaks a rule, no plan is made of it,
-/// or memory is wanting.
-pub fn law_round_from_is_complete()
-    ensures { RoundFromIsComplete }
-{
-    description_reader::law_one_answer();
-    description_reader::law_one_typed();
-}
-
-/// A law over the definitions: after status 0 of `timing` the file that it put holds the text of the timing of the typed plan, which keeps the
-/// rules that speak of no band, and its widest bands were printed. After 3 a file isn't read or the plan has more or fewer numbers than the
-/// artery has signals or links, after 4 a rule fails that speaks of no band, and after 11 the timing has too many ticks; no file changed.
+/// A law over the definitions: after status 0 of `timing` the file that it put holds the text of the timing of the typed plan, whichever
+/// rules it breaks; its bands and its weighted band were printed, and then the first rule that it breaks, or that it holds. After 3 a file
+/// isn't read or the plan has more or fewer numbers than the artery has signals or links, and after 11 the timing has too many ticks; no
+/// file changed. It never ends with 4.
 pub fn law_timing_says()
     ensures { TimingSays }
 {}
 
+/// A law over the definitions: a plan that `timing` told to hold is worth no more than what a certificate bounds that `check` accepted for
+/// the same description.
+pub fn law_timing_is_bounded()
+    ensures { TimingIsBounded }
+{
+    description_reader::law_one_answer();
+    description_reader::law_one_typed();
+    certificate_checker::law_accepted_or_refused();
+}
+
 /// A law over the definitions: where the files of `timing` are a description of an artery and a typed plan, and no fault is counted, the
-/// timing is put, the plan isn't of the artery, its timing breaks a rule, it has too many ticks, or memory is wanting.
+/// timing is put, the plan isn't of the artery, it has too many ticks, or memory is wanting.
 pub fn law_timing_is_complete()
     ensures { TimingIsComplete }
 {

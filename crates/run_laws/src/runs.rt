@@ -1,11 +1,10 @@
 //! The laws of answers, of faults, and of what the statuses of the commands that search and check say.
 
-ghost use Rattle.run_laws.specs.Laws.{OneAnswer, SolveIsComplete, LinksAreComplete, MakeIsComplete, TrialIsComplete, SweepIsComplete};
-ghost use Rattle.run_laws.specs.Laws.{RenewIsComplete, PutIsAccepted, PutLinksAreAccepted, FaultsAreTold, SolveSays, LinksSay, HelpSays, HoldSays};
-ghost use Rattle.run_laws.specs.Laws.{CheckSays, CheckLinksSays, RenewSays};
+ghost use Rattle.run_laws.specs.Laws.{OneAnswer, RefusalsKeepFiles, PutIsAccepted, PutLinksAreAccepted, FaultsAreTold, SolveSays, LinksSay};
+ghost use Rattle.run_laws.specs.Laws.{HelpSays, HoldSays, CheckSays, CheckLinksSays, RenewSays};
 
-/// A law over the definitions: what the files hold, and the words, leave one answer, so that each status but those of a
-/// verdict, of a fault and of want of memory comes exactly by its cause.
+/// A law over the definitions: what the files hold, and the words, leave one answer, its cause, its lines and what it puts, so that
+/// each status but those of a verdict, of a fault and of want of memory comes exactly by its cause.
 pub fn law_one_answer()
     ensures { OneAnswer }
 {
@@ -23,52 +22,6 @@ pub fn law_one_answer()
     second_plan::law_one_plan();
     typed_plan::law_one_timing();
     link_proof::law_link_accepted_or_refused();
-}
-
-/// A law over the definitions: where the description of `solve` is one of an artery and no fault is counted, the run ends
-/// with a verdict or by want of memory.
-pub fn law_solve_is_complete()
-    ensures { SolveIsComplete }
-{
-    description_reader::law_one_answer();
-    description_reader::law_one_typed();
-}
-
-/// A law over the definitions: where the description of `links` is one of an artery and no fault is counted, the run ends with a
-/// verdict or by want of memory.
-pub fn law_links_are_complete()
-    ensures { LinksAreComplete }
-{
-    description_reader::law_one_answer();
-    description_reader::law_one_typed();
-}
-
-/// A law over the definitions: where no failed write is counted, `make` is done or ends by want of memory.
-pub fn law_make_is_complete()
-    ensures { MakeIsComplete }
-{}
-
-/// A law over the definitions: where no failed write is counted, `trial` ends with a verdict or by want of memory.
-pub fn law_trial_is_complete()
-    ensures { TrialIsComplete }
-{}
-
-/// A law over the definitions: where the description of `sweep` is one of an artery and no fault is counted, the run is done or
-/// ends by want of memory.
-pub fn law_sweep_is_complete()
-    ensures { SweepIsComplete }
-{
-    description_reader::law_one_answer();
-    description_reader::law_one_typed();
-}
-
-/// A law over the definitions: where the first file of `renew` is a certificate and no fault is counted, the run is done or ends by want
-/// of memory.
-pub fn law_renew_is_complete()
-    ensures { RenewIsComplete }
-{
-    description_reader::law_one_answer();
-    description_reader::law_one_typed();
 }
 
 /// A law over the definitions: `check` accepts the certificate that `solve` put, with the very claim of what was found.
@@ -94,19 +47,27 @@ pub fn law_faults_are_told()
     ensures { FaultsAreTold }
 {}
 
+/// A law over the definitions: a run that ends neither with a verdict nor by a failed put or write changed no file.
+pub fn law_refusals_keep_files()
+    ensures { RefusalsKeepFiles }
+{}
+
 /// A law over the definitions: after status 0 of `solve` the file that it put has a best timing of the described artery, after 1
-/// none is good, and after 2 none is above the bound that the file has, and the cause is why the search stopped.
+/// none is good, and after 2 none is above the bound that the file has, and the cause is why the search stopped. That is what its first
+/// lines tell, and `check` accepts what the put text is read as.
 pub fn law_solve_says()
     ensures { SolveSays }
 {}
 
 /// A law over the definitions: after status 0 of `links` the file that it put has a best link timing of the described artery, after 1
-/// none is good, and after 2 none has a value above the bound that the file has, and the cause is why the search stopped.
+/// none is good, and after 2 none has a value above the bound that the file has, and the cause is why the search stopped. That is what
+/// its first lines tell, and `check-links` accepts what the put text is read as.
 pub fn law_links_say()
     ensures { LinksSay }
 {}
 
-/// A law over the definitions: after status 0 of `--help` each usage has its line in what was written, so that none is missing there.
+/// A law over the definitions: after status 0 of `--help` each usage has its line in what was written, so that none is missing there, and
+/// the line names the word by which its request is asked for.
 pub fn law_help_says()
     ensures { HelpSays }
 {}

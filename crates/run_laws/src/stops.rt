@@ -3,8 +3,8 @@
 ghost use Rattle.run_laws.specs.StopLaws.{AllNeverStopsByWork, SolveStopSays, LinksStopSays, WordsAreTold, FaultsAreCounted};
 
 /// A law over the definitions: where the words say `all`, no search is stopped by work: `solve`, `links` and `trial` then end with a
-/// best timing, with none, at a named number that left 128 bits, by a counted fault or by want of memory, and the first two also where
-/// their description is none of an artery; and no row of the table of `sweep` is open by work.
+/// best timing, with none, at a named number that left 128 bits or of a timing that would reach 2^80, by a counted fault or by want of memory,
+/// and the first two also where their description is none of an artery; and no row of the table of `sweep` is open by work.
 pub fn law_all_never_stops_by_work()
     ensures { AllNeverStopsByWork }
 {}

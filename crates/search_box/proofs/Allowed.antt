@@ -41,7 +41,8 @@ with_some a i p ms e = rw e (put_some (pattern_shift a i p) ms)
 abbrev first_two : Street → ℕ → List ℕ
 first_two a i = with_pattern a i 2 (with_pattern a i 1 [])
 
-some_of : (a : Street) (i : ℕ) (one two three four : Bool) → allows a i 1 ≡ one → allows a i 2 ≡ two → allows a i 3 ≡ three → allows a i 4 ≡ four → list_any (λ b. b) (one ∷ two ∷ three ∷ four ∷ []) ≡ true → 1 ≤ shift_count a i
+some_of : (a : Street) (i : ℕ) (one two three four : Bool) → allows a i 1 ≡ one → allows a i 2 ≡ two → allows a i 3 ≡ three → allows a i 4 ≡ four
+    → list_any (λ b. b) (one ∷ two ∷ three ∷ four ∷ []) ≡ true → 1 ≤ shift_count a i
 some_of a i true two three four e f g h t = with_keeps a i 4 (with_pattern a i 3 (first_two a i)) (with_keeps a i 3 (first_two a i) (with_keeps a i 2 (with_pattern a i 1 []) (with_some a i 1 [] e)))
 some_of a i false true three four e f g h t = with_keeps a i 4 (with_pattern a i 3 (first_two a i)) (with_keeps a i 3 (first_two a i) (with_some a i 2 (with_pattern a i 1 []) f))
 some_of a i false false true four e f g h t = with_keeps a i 4 (with_pattern a i 3 (first_two a i)) (with_some a i 3 (first_two a i) g)

@@ -31,11 +31,13 @@ place_of box (Loop i at) h p = (h.0, h.1, p.0, p.1)
 place_of box (Turn i rank) h p = let l = p.0 in let m = p.1 in (h.0, h.1, omega (arith, ints), omega (arith, ints))
 
 -- ---- the spans of the two parts
-pub low_fits : (place : At) (s : Span) (least most at : ℤ) → least ≡ s.least → most ≡ at → FitsAt place s → FitsAt place (record { least = at; most = at }) → FitsAt place (record { least = least; most = most })
+pub low_fits : (place : At) (s : Span) (least most at : ℤ) → least ≡ s.least → most ≡ at → FitsAt place s → FitsAt place (record { least = at; most = at })
+    → FitsAt place (record { least = least; most = most })
 low_fits (Loop i own) s least most at e f g n = tt
 low_fits (Turn i rank) s least most at e f g n = rw (e, f) (g.0, g.1, n.2, n.3)
 
-pub high_fits : (place : At) (s : Span) (least most at : ℤ) → least ≡ at +ℤ pos 1 → most ≡ s.most → at <ℤ s.most → FitsAt place s → FitsAt place (record { least = at; most = at }) → FitsAt place (record { least = least; most = most })
+pub high_fits : (place : At) (s : Span) (least most at : ℤ) → least ≡ at +ℤ pos 1 → most ≡ s.most → at <ℤ s.most → FitsAt place s
+    → FitsAt place (record { least = at; most = at }) → FitsAt place (record { least = least; most = most })
 high_fits (Loop i own) s least most at e f l g n = tt
 high_fits (Turn i rank) s least most at e f l g n = let z = n.0 in let m = g.3 in rw (e, f) (omega (arith, ints), omega (arith, ints), g.2, g.3)
 
@@ -48,10 +50,12 @@ high_is box (Loop i at) = refl
 high_is box (Turn i rank) = refl
 
 -- a box with such a span is the part
-pub low_made : (box low : Area) (place : At) (s : Span) (least most : ℤ) → low ≡ with_span box place (record { least = least; most = most }) → least ≡ s.least → most ≡ number_at place → s ≡ span_at box place → low ≡ low_part box place
+pub low_made : (box low : Area) (place : At) (s : Span) (least most : ℤ) → low ≡ with_span box place (record { least = least; most = most }) → least ≡ s.least
+    → most ≡ number_at place → s ≡ span_at box place → low ≡ low_part box place
 low_made box low place s least most e f g h = rw (e, f, g, h) (low_is box place)
 
-pub high_made : (box high : Area) (place : At) (s : Span) (least most : ℤ) → high ≡ with_span box place (record { least = least; most = most }) → least ≡ number_at place +ℤ pos 1 → most ≡ s.most → s ≡ span_at box place → high ≡ high_part box place
+pub high_made : (box high : Area) (place : At) (s : Span) (least most : ℤ) → high ≡ with_span box place (record { least = least; most = most })
+    → least ≡ number_at place +ℤ pos 1 → most ≡ s.most → s ≡ span_at box place → high ≡ high_part box place
 high_made box high place s least most e f g h = rw (e, f, g, h) (high_is box place)
 
 -- ---- what they hold

@@ -1,5 +1,6 @@
 -- Sums of parts of the cycle and runs, as one fraction.
-use Rattle.std.proofs.Common.{◌≡◌, ℕ, suc, ℤ, pos, negsuc, neg_ℤ, ◌+ℤ◌, ◌*ℤ◌, ◌≤ℤ◌, ◌+◌, ◌*◌, ◌/◌, ◌^◌, ◌<◌, ◌≤◌, refl, sym, ◌∙◌, ap, arith, unsigned_abs, mul-pos, mul-le-mul_right, mul-le-mul_left, div-lt_iff_lt-mul}
+use Rattle.std.proofs.Common.{◌≡◌, ℕ, suc, ℤ, pos, negsuc, neg_ℤ, ◌+ℤ◌, ◌*ℤ◌, ◌≤ℤ◌, ◌+◌, ◌*◌, ◌/◌, ◌^◌, ◌<◌, ◌≤◌, refl, sym, ◌∙◌, ap, arith}
+use Rattle.std.proofs.Common.{unsigned_abs, mul-pos, mul-le-mul_right, mul-le-mul_left, div-lt_iff_lt-mul}
 use Rattle.std.proofs.lemmas.Int.{ints, unsigned_abs-mul}
 use Rattle.std.specs.Int.{int_div_euclid}
 use borrow.Author.Differences.{up, down}
@@ -47,7 +48,8 @@ module _ (p : ℤ) (n : ℕ) (x y : Share) (h : 1 ≤ n) where
   sum_is =
       same_ratio _ _ _ _ _ _ _ _
       (sum_ratio _ _ _ _ _ _ _ _ (sum_ratio _ _ _ _ _ _ _ _ (over_ratio p n h) (over_ratio (pos x.top) x.bottom x.some)) (over_ratio (pos y.top) y.bottom y.some))
-      (over_terms (top_of p n x y) (up p * (x.bottom * y.bottom) + n * (x.top * y.bottom + y.top * x.bottom)) (down p * (x.bottom * y.bottom)) (bottom_of n x y) (mul-pos h (mul-pos x.some y.some)) (omega (arith, ints)))
+      (over_terms (top_of p n x y) (up p * (x.bottom * y.bottom) + n * (x.top * y.bottom + y.top * x.bottom)) (down p * (x.bottom * y.bottom))
+      (bottom_of n x y) (mul-pos h (mul-pos x.some y.some)) (omega (arith, ints)))
       (omega arith)
 
   pub floor_sum : floor_ℚ (sum_of p n x y) ≡ int_div_euclid (top_of p n x y) (pos (bottom_of n x y))

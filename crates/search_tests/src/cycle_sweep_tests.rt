@@ -9,10 +9,9 @@ ghost use Rattle.work_meter.specs.Work.{IsBelow};
 use artery_model::Artery;
 use cycle_sweep::{is_cycle, sweep_rows, sweep_table};
 use narrow_fraction::{Frac, Memory};
-use sample_streets::{SampleHead, plain_head, range};
 use std::alloc::Global;
 use std::test::Fail;
-use test_bed::{fraction, two_signals};
+use test_bed::{SampleHead, fraction, plain_head, range, two_signals};
 
 struct Case {
     /// The red of both signals, of 100 parts.

@@ -13,13 +13,13 @@ use named_row::{Place, RowId, WideAt};
 use narrow_fraction::{Frac, Memory, Op, Wide};
 use offset_recovery::WideTiming;
 use plan_text::{FAMILIES, FamilyName};
-use sample_streets::{
-    SampleHead, SampleLink, plain_head, plain_link, plain_signal, range, sample_street,
-};
 use search_box::SearchBox;
 use std::alloc::Global;
 use std::test::Fail;
-use test_bed::{Record, WHOLE_GREEN, fraction_or_zero};
+use test_bed::{
+    Record, SampleHead, SampleLink, WHOLE_GREEN, fraction_or_zero, plain_head, plain_link,
+    plain_signal, range, sample_street,
+};
 use time_space::{Timing, holds};
 
 /// What differs between the arteries. The cycle is in seconds and has one length; a pair is outbound and inbound.

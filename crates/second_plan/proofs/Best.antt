@@ -17,10 +17,10 @@ use Rattle.time_space.proofs.Quotients.{weighted}
 use Rattle.band_measure.specs.Pairs.{RunsOn, with_pairs, FinerPairs}
 use Rattle.band_measure.specs.Pairs.{PairsMakeGood}
 use Rattle.band_measure.specs.Widest.{IsWidest}
-use Rattle.second_plan.specs.Cut.{IsCut}
+use Rattle.band_measure.specs.Cut.{IsCut}
 use Rattle.second_plan.specs.Planned.{HasOffsetsOf, IsBestOfOffsets}
-use Rattle.second_plan.specs.declared.bands.Bands.{Bands}
-use Rattle.second_plan.proofs.Cuts.{cut_most}
+use Rattle.band_measure.specs.declared.bands.Bands.{Bands}
+use Rattle.band_measure.proofs.Cuts.{cut_most}
 
 -- wider bands weigh more
 value_most : (k : ℚ) (n o i p q c : ℕ) → pos n ≡ k.num → 0 < c → o ≤ p → i ≤ q → ((number o +ℚ k *ℚ number i) /ℚ number c) ≤ℚ ((number p +ℚ k *ℚ number q) /ℚ number c)
@@ -29,7 +29,8 @@ value_most k n o i p q c e h l m =
     let f = mul-le-mul_left k.den l in
     let g = mul-le-mul_left n m in
     let s : (k.den * o + n * i) * (k.den * c) ≤ (k.den * p + n * q) * (k.den * c) = mul-le-mul_right (k.den * c) (omega (arith, f, g)) in
-    let w : over (pos (k.den * o + n * i)) (k.den * c) ≤ℚ over (pos (k.den * p + n * q)) (k.den * c) = (over_≤ℚ (pos (k.den * o + n * i)) (pos (k.den * p + n * q)) (k.den * c) (k.den * c) d d).1 (omega (arith, ints, s)) in
+    let w : over (pos (k.den * o + n * i)) (k.den * c) ≤ℚ over (pos (k.den * p + n * q)) (k.den * c) =
+    (over_≤ℚ (pos (k.den * o + n * i)) (pos (k.den * p + n * q)) (k.den * c) (k.den * c) d d).1 (omega (arith, ints, s)) in
     rw (weighted k n k.den o i c e refl h, weighted k n k.den p q c e refl h) at w
 
 module _ (a : Street) (t : TimingRecord) (valid : IsValid a) (unit : 2 ≤ t.unit) (pairs : PairsMakeGood) (finer_pairs : FinerPairs) where
@@ -39,8 +40,10 @@ module _ (a : Street) (t : TimingRecord) (valid : IsValid a) (unit : 2 ≤ t.uni
       let more = w.widest 1 (x *ℤ pos 1) (b * 1) (omega arith) ((finer_pairs a t d 1 x b valid unit (omega arith)).0 g) in
       omega (arith, more)
 
-  module _ (there back : ℕ) (wide bands : Bands) (n : ℕ) (e : pos n ≡ a.head.ratio.num) (out : IsWidest a t Outbound there wide.outbound) (inward : IsWidest a t Inbound back wide.inbound) (cut : IsCut a wide bands) where
-    of_lines : (x : ℤ) (b : ℕ) (y : ℤ) (c : ℕ) → Good a (with_pairs x b y c t) → weighted_band a (with_pairs x b y c t) ≤ℚ weighted_band a (with_pairs (pos there) bands.outbound (pos back) bands.inbound t)
+  module _ (there back : ℕ) (wide bands : Bands) (n : ℕ) (e : pos n ≡ a.head.ratio.num) (out : IsWidest a t Outbound there wide.outbound)
+      (inward : IsWidest a t Inbound back wide.inbound) (cut : IsCut a wide bands) where
+    of_lines : (x : ℤ) (b : ℕ) (y : ℤ) (c : ℕ) → Good a (with_pairs x b y c t) → weighted_band a (with_pairs x b y c t) ≤ℚ weighted_band a
+        (with_pairs (pos there) bands.outbound (pos back) bands.inbound t)
     of_lines x b y c g =
         let p = (pairs a t x b y c).1 g in
         let most = cut_most a n e wide bands cut b c (no_wider Outbound there wide.outbound x b out p.outbound) (no_wider Inbound back wide.inbound y c inward p.inbound) p.ratio p.equal in

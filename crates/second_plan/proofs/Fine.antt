@@ -121,7 +121,9 @@ module _ (a : Street) (t : TimingRecord) (k : ℕ) (offsets : List ℕ) where
       band_in = c;
     }
 
-    module _ (valid : IsValid a) (p : IsTimingRecord t) (fine : too_fine a t k ≡ None) (some : 1 ≤ k) (shape : length t.patterns ≡ count a) (each : All (λ n. (1 ≤ n) × (n ≤ 4)) t.patterns) (long : length offsets ≡ count a) (below : All (λ n. n < k) offsets) (fs : f < 2 ^ 80) (bs : b < 2 ^ 80) (gs : g < 2 ^ 80) (cs : c < 2 ^ 80) where
+    module _ (valid : IsValid a) (p : IsTimingRecord t) (fine : too_fine a t k ≡ None) (some : 1 ≤ k) (shape : length t.patterns ≡ count a)
+        (each : All (λ n. (1 ≤ n) × (n ≤ 4)) t.patterns) (long : length offsets ≡ count a) (below : All (λ n. n < k) offsets) (fs : f < 2 ^ 80)
+        (bs : b < 2 ^ 80) (gs : g < 2 ^ 80) (cs : c < 2 ^ 80) where
       sizes_are : IsFine a t k
       sizes_are = is_fine a t k fine
 
@@ -132,9 +134,11 @@ module _ (a : Street) (t : TimingRecord) (k : ℕ) (offsets : List ℕ) where
       unit_above = let m : 1 * 1 ≤ k * t.grid = mul-le {a = 1} {b = k} {c = 1} {d = t.grid} some p.grid in omega (arith, m)
 
       unit_below : 2 * k * t.grid < 2 ^ 80
-      unit_below = let m : 1 * (2 * k * t.grid) ≤ a.head.parts * (2 * k * t.grid) = mul-le-mul_right (2 * k * t.grid) (let l = valid.least_parts in omega arith) in let h = sizes_are.cycle in omega (arith, m, h)
+      unit_below = let m : 1 * (2 * k * t.grid) ≤ a.head.parts * (2 * k * t.grid) = mul-le-mul_right (2 * k * t.grid) (let l = valid.least_parts in omega arith) in
+          let h = sizes_are.cycle in omega (arith, m, h)
 
-      listed : IsTiming (t.grid * fineness a) (2 * k * t.grid) t.patterns (map (λ offset. offset * (t.grid * fineness a)) offsets) (map (λ n. n * fineness a) t.run_out) (map (λ n. n * fineness a) t.run_in) f g b c
+      listed : IsTiming (t.grid * fineness a) (2 * k * t.grid) t.patterns (map (λ offset. offset * (t.grid * fineness a)) offsets) (map (λ n. n * fineness a) t.run_out)
+          (map (λ n. n * fineness a) t.run_in) f g b c
       listed = record {
         grid_least = grid_above;
         grid_most = sizes_are.grid;

@@ -1,6 +1,4 @@
 mod Rounding
-mod Parts
-mod Cuts
 mod Fine
 mod Rules
 mod Best

@@ -24,14 +24,14 @@ use Rattle.narrow_fraction.specs.declared.wide.Wide.{Wide}
 use Rattle.second_plan.specs.Nearest.{apart, IsNearest}
 use Rattle.second_plan.specs.Seconds.{IsWholeCycle, IsSeconds, IsOffset, AreOffsets}
 use Rattle.second_plan.specs.Grid.{in_seconds, too_fine}
-use Rattle.second_plan.specs.Cut.{IsCut}
+use Rattle.band_measure.specs.Cut.{IsCut}
 use Rattle.second_plan.specs.Planned.{AreWhole, IsPlanned, IsAnswer}
 use Rattle.second_plan.specs.Ends.{IsTooFine, HasNoLine, IsRefused, IsPastLoss, Ends, OneEnd, PlanOrEnd, OnePlan}
-use Rattle.second_plan.specs.declared.bands.Bands.{Bands}
+use Rattle.band_measure.specs.declared.bands.Bands.{Bands}
 use Rattle.second_plan.specs.declared.answer.Plan.{Plan as Answer}
 use Rattle.second_plan.specs.declared.answer.PlanEnd.{PlanEnd}
 use Rattle.second_plan.specs.declared.answer.PlanEnd.TheVariants as end
-use Rattle.second_plan.proofs.Cuts.{one_cut_of}
+use Rattle.band_measure.proofs.Cuts.{one_cut_of}
 use Rattle.second_plan.proofs.Rules.{natural, unit_least}
 
 -- one number is nearest, of two the lesser
@@ -87,10 +87,12 @@ module _ (a : Street) (t : TimingRecord) (valid : IsValid a) (good : Good a t) w
     plan_here p q h g =
         let out = one_widest a (in_seconds a t k os) Outbound h.there.first h.there.band g.there.first g.there.band valid frame_unit h.widest_out g.widest_out in
         let back = one_widest a (in_seconds a t k os) Inbound h.back.first h.back.band g.back.first g.back.band valid frame_unit h.widest_in g.widest_in in
-        let wide : ◌≡◌ {A = Bands} (record { outbound = h.there.band; inbound = h.back.band }) (record { outbound = g.there.band; inbound = g.back.band }) = λ i. record { outbound = out.1 i; inbound = back.1 i } in
+        let wide : ◌≡◌ {A = Bands} (record { outbound = h.there.band; inbound = h.back.band }) (record { outbound = g.there.band; inbound = g.back.band }) =
+        λ i. record { outbound = out.1 i; inbound = back.1 i } in
         let bands : h.bands ≡ g.bands = one_cut_of a (unsigned_abs a.head.ratio.num) (natural a.head.ratio.num (let r = valid.ratio.least in omega (arith, ints, r)))
         (record { outbound = g.there.band; inbound = g.back.band }) h.bands g.bands (subst (λ (b : Bands). IsCut a b h.bands) wide h.cut) g.cut in
-        let same : with_pairs (pos h.there.first) h.bands.outbound (pos h.back.first) h.bands.inbound (in_seconds a t k os) ≡ with_pairs (pos g.there.first) g.bands.outbound (pos g.back.first) g.bands.inbound (in_seconds a t k os) =
+        let same : with_pairs (pos h.there.first) h.bands.outbound (pos h.back.first) h.bands.inbound (in_seconds a t k os) ≡ with_pairs (pos g.there.first)
+        g.bands.outbound (pos g.back.first) g.bands.inbound (in_seconds a t k os) =
         λ i. with_pairs (pos (out.0 i)) ((bands i).outbound) (pos (back.0 i)) ((bands i).inbound) (in_seconds a t k os) in
         h.timing ∙ same ∙ sym g.timing
 
@@ -116,10 +118,12 @@ module _ (a : Street) (t : TimingRecord) (valid : IsValid a) (good : Good a t) w
       by : (d : Dir) → HasNoLine a t d → ⊥
       by Outbound h =
           let w = whole_once h.k k h.offsets os h.whole g.whole in
-          runs_some k os g.whole Outbound g.there.first g.there.band g.widest_out (subst (λ n. NoneRuns a (in_seconds a t n os) Outbound) w.0 (subst (λ xs. NoneRuns a (in_seconds a t h.k xs) Outbound) w.1 h.none))
+          runs_some k os g.whole Outbound g.there.first g.there.band g.widest_out (subst (λ n. NoneRuns a (in_seconds a t n os) Outbound) w.0
+          (subst (λ xs. NoneRuns a (in_seconds a t h.k xs) Outbound) w.1 h.none))
       by Inbound h =
           let w = whole_once h.k k h.offsets os h.whole g.whole in
-          runs_some k os g.whole Inbound g.back.first g.back.band g.widest_in (subst (λ n. NoneRuns a (in_seconds a t n os) Inbound) w.0 (subst (λ xs. NoneRuns a (in_seconds a t h.k xs) Inbound) w.1 h.none))
+          runs_some k os g.whole Inbound g.back.first g.back.band g.widest_in (subst (λ n. NoneRuns a (in_seconds a t n os) Inbound) w.0
+          (subst (λ xs. NoneRuns a (in_seconds a t h.k xs) Inbound) w.1 h.none))
 
   one_direction : HasNoLine a t Outbound → HasNoLine a t Inbound → ⊥
   one_direction p q =
@@ -163,7 +167,8 @@ module _ (a : Street) (t : TimingRecord) (valid : IsValid a) (good : Good a t) w
   two_losses : (claim : ℚ) (v w : Wide) → IsPastLoss a claim t v → IsPastLoss a claim t w → v ≡ w
   two_losses claim v w p q =
       let same = planned_once p.k q.k p.offsets q.offsets p.plan q.plan p.planned q.planned in
-      let wide : ◌≡◌ {A = Wide} (record { op = Sub; left = claim; right = weighted_band a p.plan }) (record { op = Sub; left = claim; right = weighted_band a q.plan }) = λ i. record { op = Sub; left = claim; right = weighted_band a (same i) } in
+      let wide : ◌≡◌ {A = Wide} (record { op = Sub; left = claim; right = weighted_band a p.plan }) (record { op = Sub; left = claim; right = weighted_band a q.plan }) =
+      λ i. record { op = Sub; left = claim; right = weighted_band a (same i) } in
       p.wide ∙ wide ∙ sym q.wide
 
   one_end_of : (claim : ℚ) (e f : PlanEnd) → Ends a claim t e → Ends a claim t f → e ≡ f

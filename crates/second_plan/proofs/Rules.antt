@@ -25,9 +25,9 @@ use Rattle.time_space.proofs.Firsts.{not_both}
 use Rattle.time_space.proofs.RulesOut.{not_base}
 use Rattle.band_measure.specs.Pairs.{RunsOn, OwnPair, with_pair, with_pairs}
 use Rattle.second_plan.specs.Seconds.{IsWholeCycle}
-use Rattle.second_plan.specs.Cut.{IsCut}
-use Rattle.second_plan.specs.declared.bands.Bands.{Bands}
-use Rattle.second_plan.proofs.Cuts.{cut_ratio, cut_equal}
+use Rattle.band_measure.specs.Cut.{IsCut}
+use Rattle.band_measure.specs.declared.bands.Bands.{Bands}
+use Rattle.band_measure.proofs.Cuts.{cut_ratio, cut_equal}
 use Rattle.second_plan.specs.Grid.{fineness, in_seconds}
 
 pub natural : (z : ℤ) → pos 0 ≤ℤ z → pos (unsigned_abs z) ≡ z
@@ -55,10 +55,12 @@ module _ (a : Street) (t : TimingRecord) (valid : IsValid a) (base : IsBase a t)
   not_negative = whole-≤ℤ (pos 0) (pos (t.grid * fineness a)) (omega (arith, ints))
 
   cycle_least : (a.head.cycle.least *ℚ number (t.grid * fineness a)) ≤ℚ number (cycle a (in_seconds a t k offsets))
-  cycle_least = subst (λ z. (a.head.cycle.least *ℚ number (t.grid * fineness a)) ≤ℚ z) (sym seconds_times) (≤ℚ-*ℚ a.head.cycle.least (number k) (number (t.grid * fineness a)) whole_cycle.least not_negative)
+  cycle_least = subst (λ z. (a.head.cycle.least *ℚ number (t.grid * fineness a)) ≤ℚ z) (sym seconds_times)
+      (≤ℚ-*ℚ a.head.cycle.least (number k) (number (t.grid * fineness a)) whole_cycle.least not_negative)
 
   cycle_most : number (cycle a (in_seconds a t k offsets)) ≤ℚ (a.head.cycle.most *ℚ number (t.grid * fineness a))
-  cycle_most = subst (λ z. z ≤ℚ (a.head.cycle.most *ℚ number (t.grid * fineness a))) (sym seconds_times) (≤ℚ-*ℚ (number k) a.head.cycle.most (number (t.grid * fineness a)) whole_cycle.most not_negative)
+  cycle_most = subst (λ z. z ≤ℚ (a.head.cycle.most *ℚ number (t.grid * fineness a))) (sym seconds_times)
+      (≤ℚ-*ℚ (number k) a.head.cycle.most (number (t.grid * fineness a)) whole_cycle.most not_negative)
 
   module _ (x : ℤ) (b : ℕ) (y : ℤ) (c : ℕ) where
     abbrev plan : TimingRecord
@@ -106,7 +108,8 @@ module _ (a : Street) (t : TimingRecord) (x : ℤ) (b c : ℕ) where
       subst (λ z. IsTrue (is_green (cycle a t) (red_start a t Inbound i) (red_ticks a t Inbound i) (z +ℤ pos s))) (crossing_same Inbound j) (g j m s (omega arith))
 
 -- ---- what may fail
-module _ (a : Street) (p : TimingRecord) (base : IsBase a p) (ratio : RatioHolds a.head.ratio p.band_out p.band_in) (equal : HasEqualBands a p) (outbound : IsGreenWay a p Outbound) (inbound : IsGreenWay a p Inbound) where
+module _ (a : Street) (p : TimingRecord) (base : IsBase a p) (ratio : RatioHolds a.head.ratio p.band_out p.band_in) (equal : HasEqualBands a p)
+    (outbound : IsGreenWay a p Outbound) (inbound : IsGreenWay a p Inbound) where
   pub only_least : (f : Failing) → IsFirstFailing a p f → (d : Dir) × (f ≡ failing.Least d)
   only_least failing.Ratio h = absurd (h.fails ratio)
   only_least (failing.Least d) h = (d, refl)
@@ -116,7 +119,8 @@ module _ (a : Street) (p : TimingRecord) (base : IsBase a p) (ratio : RatioHolds
   only_least f h = absurd (not_base a p f h (omega arith) base)
 
 -- ---- of a plan whose bands are cut
-module _ (a : Street) (t : TimingRecord) (valid : IsValid a) (base : IsBase a t) (k : ℕ) (offsets : List ℕ) (whole_cycle : IsWholeCycle a k) (some : 1 ≤ k) (long : length offsets ≡ count a) (own : OwnPair) where
+module _ (a : Street) (t : TimingRecord) (valid : IsValid a) (base : IsBase a t) (k : ℕ) (offsets : List ℕ) (whole_cycle : IsWholeCycle a k) (some : 1 ≤ k)
+    (long : length offsets ≡ count a) (own : OwnPair) where
   pub least_alone : (x : ℕ) (o : ℕ) (y : ℕ) (i : ℕ) (wide bands : Bands) → IsCut a wide bands → o ≤ wide.outbound → i ≤ wide.inbound → o ≡ bands.outbound → i ≡ bands.inbound
       → RunsOn a (in_seconds a t k offsets) Outbound (pos x) wide.outbound → RunsOn a (in_seconds a t k offsets) Inbound (pos y) wide.inbound
       → (p : TimingRecord) → p ≡ with_pairs (pos x) o (pos y) i (in_seconds a t k offsets) → (f : Failing) → IsFirstFailing a p f → (d : Dir) × (f ≡ failing.Least d)

@@ -1,6 +1,5 @@
 pub mod Nearest
 pub mod Seconds
 pub mod Grid
-pub mod Cut
 pub mod Planned
 pub mod Ends

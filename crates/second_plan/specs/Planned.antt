@@ -13,9 +13,9 @@ use Rattle.band_measure.specs.Widest.{IsWidest}
 use Rattle.band_measure.specs.declared.pair.Widest.{Widest}
 use Rattle.second_plan.specs.Seconds.{IsSeconds, AreOffsets}
 use Rattle.second_plan.specs.Grid.{in_seconds, too_fine}
-use Rattle.second_plan.specs.Cut.{IsCut}
+use Rattle.band_measure.specs.Cut.{IsCut}
 use Rattle.second_plan.specs.declared.answer.Plan.{Plan as Answer}
-use Rattle.second_plan.specs.declared.bands.Bands.{Bands}
+use Rattle.band_measure.specs.declared.bands.Bands.{Bands}
 
 -- the seconds and the offsets of a timing, on a grid whose numbers a timing can hold
 pub record AreWhole (a : Street) (t : TimingRecord) (k : ℕ) (offsets : List ℕ) : Type 0 where

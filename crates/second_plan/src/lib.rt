@@ -6,7 +6,7 @@
 //! to the timing's, and its offsets are the timing's, as shares of the cycle, in whole seconds; of two nearest numbers the lesser
 //! (`specs/Nearest.antt`, `specs/Seconds.antt`). Its grid is the timing's times twice the parts, so that offsets, parts and the
 //! timing's runs are whole ticks (`specs/Grid.antt`); its firsts are those of `band_measure::widest`, and its bands too, but cut
-//! where they have to be equal, or where the ratio allows one of them less (`specs/Cut.antt`). The plan's timing is good, and no
+//! where they have to be equal, or where the ratio allows one of them less (`band_measure::cut`). The plan's timing is good, and no
 //! good timing with its grid, unit, patterns, reds and runs has a greater weighted band (`IsBestOfOffsets`): with these both pairs
 //! run, so they are no wider than the widest, and a pair that keeps the ratio no wider than the cut one. Its loss is the claim less
 //! its weighted band, and at least 0 where the claim bounds the artery.
@@ -19,7 +19,6 @@
 #![tactic(auto, using(rational_theory::proofs::Compare::ne_false, rational_theory::proofs::Compare::eq_true, rational_theory::proofs::Compare::lt_true, rational_theory::proofs::Compare::lt_false, rational_theory::proofs::Compare::le_true, rational_theory::proofs::Compare::le_false))]
 
 mod answer;
-mod bands;
 mod grid;
 mod laws;
 mod nearest;

@@ -9,11 +9,12 @@ ghost use Rattle.second_plan.specs.{Grid.{in_seconds}, Planned.{AreWhole, IsPlan
 ghost use Rattle.second_plan.specs.Seconds.{IsRounded};
 
 use crate::answer::{Plan, PlanEnd, PlanFault};
-use crate::bands::{Bands, cut};
 use crate::grid::{timed, too_fine};
 use crate::seconds::{Rounded, offsets, whole_cycle};
 use artery_model::Artery;
-use band_measure::{BothPairs, Widest, law_finer_pairs, law_own_pair, law_pairs_make_good, widest};
+use band_measure::{
+    Bands, BothPairs, Widest, cut, law_finer_pairs, law_own_pair, law_pairs_make_good, widest,
+};
 use narrow_fraction::Frac;
 use progression::Dir;
 use std::alloc::Global;

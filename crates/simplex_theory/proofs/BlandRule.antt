@@ -76,7 +76,8 @@ choice_from t r j a b = record {
 not_negative : (x : ℚ) → (is_negative x ≡ true → ⊥) → whole (pos 0) ≤ℚ x
 not_negative x n = lt_false _ _ (sym (false_from_ne_true _ n))
 
-says_in : (t : Tableau) (r : ℕ) (o : Option ℕ) → IsBest (λ i. is_negative (bound t i)) (row_before t) (height t) r → OnBest (λ k. is_negative (cell t r k)) (place_before t r) (width t) o → Says t (move_in r o)
+says_in : (t : Tableau) (r : ℕ) (o : Option ℕ) → IsBest (λ i. is_negative (bound t i)) (row_before t) (height t) r
+    → OnBest (λ k. is_negative (cell t r k)) (place_before t r) (width t) o → Says t (move_in r o)
 says_in t r None a h = (a.within, lt_true _ _ (sym a.passes), λ k l. not_negative _ (h k l))
 says_in t r (Some j) a h = choice_from t r j a h
 

@@ -72,7 +72,8 @@ vertex_low t v d h = pick (basic_or_not t v)
     pick (inr n) = rw (vertex_other t v d.shaped n) (≤ℚ_refl _)
 
 -- where no bound is negative, the vertex meets each named row
-pub vertex_rows : (t : Tableau) (s : System) (r : ℕ) → IsDual t → StandsFor t s → ((i : ℕ) → i < height t → whole (pos 0) ≤ℚ bound t i) → r < height t → total (λ c. s.coef r c *ℚ vertex t c) (width t) ≤ℚ s.limit r
+pub vertex_rows : (t : Tableau) (s : System) (r : ℕ) → IsDual t → StandsFor t s → ((i : ℕ) → i < height t → whole (pos 0) ≤ℚ bound t i) → r < height t
+    → total (λ c. s.coef r c *ℚ vertex t c) (width t) ≤ℚ s.limit r
 vertex_rows t s r d k h l =
     let f = ((k.rows (vertex t) (whole (pos 1))).0 (vertex_meets t d.shaped d.placed)).fills r l in
     linear (record { count = 1; low = lit (pos 0); high = at 1 } ∷ record { count = 1; low = at 0 ⊕ at 1; high = at 2 } ∷ []) 0 (at 0) (at 2)

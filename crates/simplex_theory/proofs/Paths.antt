@@ -122,7 +122,8 @@ zero_goals p r j n a e k h =
     goal_bound_stays (r k) (j k) (p k) (a.choice k h)
     (ap goal_bound (sym (a.next k h))
     ∙ ≤ℚ_antisymm _ _ (bound_step p r j n a k h)
-    (≤ℚ_trans _ _ _ (bound_along p r j n a 0 k (omega arith) (omega arith)) (subst (λ t. t ≤ℚ goal_bound (p (suc k))) (same_bounds p r j n a e) (bound_along p r j n a (suc k) n (omega arith) (omega arith)))))
+    (≤ℚ_trans _ _ _ (bound_along p r j n a 0 k (omega arith) (omega arith)) (subst (λ t. t ≤ℚ goal_bound (p (suc k))) (same_bounds p r j n a e)
+    (bound_along p r j n a (suc k) n (omega arith) (omega arith)))))
 
 -- the goal's cell of v is 0 wherever v stands
 record HasZeroGoal (t : Tableau) (v : ℕ) : Type 0 where
@@ -153,7 +154,8 @@ zero_along p r j n a e k m h l =
     let here : HasZeroGoal (p k) v =
     record { zero_goal = λ i b f. ap (λ i. goal_cell (p k) i) ((dual_along p r j n a k (omega arith)).placed.places i (j k) b (a.choice k h).place f) ∙ zero_goals p r j n a e k h } in
     forth (λ i. HasZeroGoal (p i) v) n
-    (λ i b z. subst (λ t. HasZeroGoal t v) (sym (a.next i b)) (zero_forth (p i) (r i) (j i) v (dual_along p r j n a i (omega arith)).shaped (place_of (p i) (r i) (j i) (a.choice i b)) (zero_goals p r j n a e i b) z))
+    (λ i b z. subst (λ t. HasZeroGoal t v) (sym (a.next i b)) (zero_forth (p i) (r i) (j i) v (dual_along p r j n a i (omega arith)).shaped
+    (place_of (p i) (r i) (j i) (a.choice i b)) (zero_goals p r j n a e i b) z))
     0 m (omega arith) l
     (back (λ i. HasZeroGoal (p i) v) n
     (λ i b z. zero_back (p i) (r i) (j i) v (place_of (p i) (r i) (j i) (a.choice i b)) (zero_goals p r j n a e i b) (subst (λ t. HasZeroGoal t v) (a.next i b) z))
@@ -217,7 +219,8 @@ module _ (p : ℕ → Tableau) (r j : ℕ → ℕ) (n b c : ℕ) (q : Clash p r 
           ∙ sym (zero_ratio (p c) (r c) k ((zero_along p r j n q.path q.same f.at c f.within (let l = q.entering in omega arith)).zero_goal k h (sym f.holds))) in
           absurd (d (let e = here.least_place k h l zero_ratios in let g = q.most f.at f.within in let i = f.holds in omega arith))
       smaller f d (inr l) =
-          product_not_negative _ _ l (vertex_low (p b) (r b) (j b) (standing_at (p c) k) before.shaped before.placed there (let g = q.most f.at f.within in let i = f.holds in let e = q.is in grind arith))
+          product_not_negative _ _ l (vertex_low (p b) (r b) (j b) (standing_at (p c) k) before.shaped before.placed there (let g = q.most f.at f.within in
+          let i = f.holds in let e = q.is in grind arith))
 
       fickle : Found (λ i. enters p j i ≡ standing_at (p c) k) n → (standing_at (p c) k ≡ enters p j c) ⊎ (standing_at (p c) k ≡ enters p j c → ⊥)
           → whole (pos 0) ≤ℚ (cell (p c) (r c) k *ℚ vertex (p b) (standing_at (p c) k))
@@ -227,7 +230,8 @@ module _ (p : ℕ → Tableau) (r j : ℕ → ℕ) (n b c : ℕ) (q : Clash p r 
           (rw (e ∙ sym q.is, vertex_basic (p b) (r b) before.shaped before.placed there.row) (<ℚ-≤ℚ _ _ there.negative))
       fickle f (inr d) = smaller f d (below_or_not (cell (p c) (r c) k) (whole (pos 0)))
 
-      pick : Found (λ i. enters p j i ≡ standing_at (p c) k) n ⊎ ((i : ℕ) → i < n → enters p j i ≡ standing_at (p c) k → ⊥) → whole (pos 0) ≤ℚ (cell (p c) (r c) k *ℚ vertex (p b) (standing_at (p c) k))
+      pick : Found (λ i. enters p j i ≡ standing_at (p c) k) n ⊎ ((i : ℕ) → i < n → enters p j i ≡ standing_at (p c) k → ⊥)
+          → whole (pos 0) ≤ℚ (cell (p c) (r c) k *ℚ vertex (p b) (standing_at (p c) k))
       pick (inl f) = fickle f (same_or_other (standing_at (p c) k) (enters p j c))
       pick (inr f) =
           rw
@@ -274,5 +278,6 @@ no_return p r j n a s =
         (record {
           row = r g.at;
           within = rw (a.next g.at g.within, height-exchange (r g.at) (j g.at) (p g.at)) here.row;
-          is = ap (λ (t : Tableau). basic_at t (r g.at)) (a.next g.at g.within) ∙ basic_same (r g.at) (j g.at) (p g.at) (rw (dual_along p r j (suc n) a g.at (let l = g.within in omega arith)).shaped.basics here.row);
+          is = ap (λ (t : Tableau). basic_at t (r g.at)) (a.next g.at g.within)
+              ∙ basic_same (r g.at) (j g.at) (p g.at) (rw (dual_along p r j (suc n) a g.at (let l = g.within in omega arith)).shaped.basics here.row);
         }))

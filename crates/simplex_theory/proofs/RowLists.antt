@@ -42,7 +42,8 @@ all_met_from : (x : List ℚ) (rows : List Row) → ((r : ℕ) → r < length ro
 all_met_from x [] h = tt
 all_met_from x (r ∷ rs) h = (h 0 (omega arith), all_met_from x rs (λ i l. h (suc i) (omega arith)))
 
-pub optimal_point : (t : Tableau) (rows : List Row) (goal : List ℚ) → IsDual t → StandsForRows t rows goal → ((i : ℕ) → i < height t → whole (pos 0) ≤ℚ bound t i) → IsOptimalPoint t rows goal (vertex_point t)
+pub optimal_point : (t : Tableau) (rows : List Row) (goal : List ℚ) → IsDual t → StandsForRows t rows goal → ((i : ℕ) → i < height t → whole (pos 0) ≤ℚ bound t i)
+    → IsOptimalPoint t rows goal (vertex_point t)
 unfolding vertex_point
 optimal_point t rows goal d s h = record {
   not_negative = columns_not_negative (vertex t) 0 (width t) (λ v. vertex_low t v d h);

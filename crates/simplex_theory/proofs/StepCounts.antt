@@ -69,7 +69,8 @@ code_same (suc n) t u e v h = pick (same_or_other v n) (λ l. code_same n t u (l
     pick (inl p) k = rw p (let f = bit_low (basic_or_not t n) in let g = bit_low (basic_or_not u n) in omega arith)
     pick (inr p) k = k (grind arith)
 
-bit_basic : (t u : Tableau) (v : ℕ) (q : IsBasic t v ⊎ ((i : ℕ) → i < height t → basic_at t i ≡ v → ⊥)) (s : IsBasic u v ⊎ ((i : ℕ) → i < height u → basic_at u i ≡ v → ⊥)) → bit q ≡ bit s → IsBasic t v → IsBasic u v
+bit_basic : (t u : Tableau) (v : ℕ) (q : IsBasic t v ⊎ ((i : ℕ) → i < height t → basic_at t i ≡ v → ⊥)) (s : IsBasic u v ⊎ ((i : ℕ) → i < height u → basic_at u i ≡ v → ⊥))
+    → bit q ≡ bit s → IsBasic t v → IsBasic u v
 unfolding bit
 bit_basic t u v q (inl b) e a = b
 bit_basic t u v (inl c) (inr b) e a = absurd (omega arith)
@@ -165,17 +166,20 @@ pub path_low : (p : ℕ → Tableau) (r j : ℕ → ℕ) (n : ℕ) → IsPath p 
 path_low p r j n a e =
     let s = height (p 0) + width (p 0) in
     no_room n (λ k. code s (p k)) (λ k h. subst (λ m. code s (p k) < m) (sym e) (code_low s (p k)))
-    (λ i k h l f. never_again p r j n i k a h l (same_codes s (p i) (p k) (dual_along p r j n a i (omega arith)) (dual_along p r j n a k l) (size_along p r j n a i (omega arith)) (size_along p r j n a k l) f))
+    (λ i k h l f. never_again p r j n i k a h l (same_codes s (p i) (p k) (dual_along p r j n a i (omega arith)) (dual_along p r j n a k l)
+    (size_along p r j n a i (omega arith)) (size_along p r j n a k l) f))
 
 pub steps_low : (t : Tableau) → IsDual t → steps_to_end t < room (height t + width t)
 unfolding steps_to_end after
 steps_low t d = pick (cases_lt (steps (room (height t + width t)) t) (room (height t + width t)))
   where
-    pick : (steps (room (height t + width t)) t < room (height t + width t)) ⊎ (room (height t + width t) ≤ steps (room (height t + width t)) t) → steps (room (height t + width t)) t < room (height t + width t)
+    pick : (steps (room (height t + width t)) t < room (height t + width t)) ⊎ (room (height t + width t) ≤ steps (room (height t + width t)) t)
+        → steps (room (height t + width t)) t < room (height t + width t)
     pick (inl h) = h
     pick (inr h) =
         let full : steps (room (height t + width t)) t ≡ room (height t + width t) = let e = steps_le (room (height t + width t)) t in omega arith in
-        absurd (path_low (after t) (λ k. row_in (move (after t k))) (λ k. place_in (move (after t k))) (room (height t + width t)) (path_from t (room (height t + width t)) d (all_pivots _ t full)) refl)
+        absurd (path_low (after t) (λ k. row_in (move (after t k))) (λ k. place_in (move (after t k))) (room (height t + width t))
+        (path_from t (room (height t + width t)) d (all_pivots _ t full)) refl)
 
 -- ---- a step lowers the number
 counted_more : (m : Move) (a b n : ℕ) → counted m a < suc n → (a < n → b ≡ a) → counted m b ≡ counted m a

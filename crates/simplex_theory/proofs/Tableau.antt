@@ -75,14 +75,16 @@ unfolding gap
 gap-exchange_same r j t x z s p =
     rw (basic_same r j t (rw s.basics p.row), line-exchange_same r j t p.row, values_there r j t x z p.place)
     (ap (λ u. u +ℚ dot (turned j (line t r)) (set (values x z t.standing) j (x (basic_at t r)))) (sym (get_or-values x z t.standing j p.place))
-    ∙ turned_gap (line t r) (values x z t.standing) j (x (basic_at t r)) (let e = s.lines r p.row in let k = p.place in omega arith) (let e = length-values x z t.standing in let k = p.place in omega arith) p.pivot)
+    ∙ turned_gap (line t r) (values x z t.standing) j (x (basic_at t r)) (let e = s.lines r p.row in let k = p.place in omega arith) (let e =
+    length-values x z t.standing in let k = p.place in omega arith) p.pivot)
 
 pub gap-exchange_other : (r j i : ℕ) (t : Tableau) (x : ℕ → ℚ) (z : ℚ) → IsShaped t → IsPlace t r j → i < height t → (i ≡ r → ⊥)
     → gap (exchange r j t) x z i ≡ gap t x z i +ℚ neg_ℚ (cell t i j) *ℚ gap (exchange r j t) x z r
 unfolding gap
 gap-exchange_other r j i t x z s p l n =
     rw (basic_other r j i t n, basic_same r j t (rw s.basics p.row), line-exchange_same r j t p.row, line-exchange_other r j i t l n, values_there r j t x z p.place)
-    (cleared_gap (line t i) (turned j (line t r)) (values x z t.standing) j (x (basic_at t i)) (x (basic_at t r)) (let e = s.lines i l in let k = p.place in omega arith) (let e = length-values x z t.standing in let k = p.place in omega arith)
+    (cleared_gap (line t i) (turned j (line t r)) (values x z t.standing) j (x (basic_at t i)) (x (basic_at t r)) (let e = s.lines i l in let k =
+    p.place in omega arith) (let e = length-values x z t.standing in let k = p.place in omega arith)
     ∙ ap (λ u. gap t x z i +ℚ neg_ℚ (cell t i j) *ℚ (u +ℚ dot (turned j (line t r)) (set (values x z t.standing) j (x (basic_at t r))))) (get_or-values x z t.standing j p.place))
 
 pub goal_gap-exchange : (r j : ℕ) (t : Tableau) (x : ℕ → ℚ) (z y : ℚ) → IsShaped t → IsPlace t r j
@@ -90,7 +92,8 @@ pub goal_gap-exchange : (r j : ℕ) (t : Tableau) (x : ℕ → ℚ) (z y : ℚ) 
 unfolding gap goal_gap
 goal_gap-exchange r j t x z y s p =
     rw (basic_same r j t (rw s.basics p.row), line-exchange_same r j t p.row, goal-exchange r j t, values_there r j t x z p.place)
-    (cleared_gap t.goal (turned j (line t r)) (values x z t.standing) j y (x (basic_at t r)) (let e = s.goals in let k = p.place in omega arith) (let e = length-values x z t.standing in let k = p.place in omega arith)
+    (cleared_gap t.goal (turned j (line t r)) (values x z t.standing) j y (x (basic_at t r)) (let e = s.goals in let k = p.place in omega arith) (let e =
+    length-values x z t.standing in let k = p.place in omega arith)
     ∙ ap (λ u. goal_gap t x z y +ℚ neg_ℚ (goal_cell t j) *ℚ (u +ℚ dot (turned j (line t r)) (set (values x z t.standing) j (x (basic_at t r))))) (get_or-values x z t.standing j p.place))
 
 -- ---- the exchange keeps the assignments, and the goal on them

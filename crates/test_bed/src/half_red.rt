@@ -3,12 +3,13 @@
 ghost use Rattle.std.specs.Prelude.{◌≡◌, ◌<◌, IfOk};
 ghost use Rattle.rational_theory.specs.Rational.{◌/ℚ◌};
 ghost use Rattle.progression.specs.{Speeds.{number}, Worked.{half_red}};
-ghost use Rattle.sample_streets.specs.Samples.{signal_of};
+ghost use Rattle.test_bed.specs.Samples.{signal_of};
 ghost use Rattle.linear_theory.specs.Worked.{apart};
 
+use crate::sample::{SampleSignal, plain_head, plain_link, plain_signal};
+use crate::sampled::sample_street;
 use artery_model::Artery;
 use narrow_fraction::Frac;
-use sample_streets::{SampleSignal, plain_head, plain_link, plain_signal, sample_street};
 use std::alloc::Global;
 use std::test::Fail;
 

@@ -3,11 +3,10 @@
 ghost use Rattle.std.specs.Prelude.{◌≡◌, IfOk};
 ghost use Rattle.progression.specs.Street.{count};
 
+use crate::sample::{SampleHead, SampleLink, plain_head, plain_link, plain_signal, range};
+use crate::sampled::sample_street;
 use artery_model::{Artery, Flaw};
 use narrow_fraction::{Frac, Unfit};
-use sample_streets::{
-    SampleHead, SampleLink, plain_head, plain_link, plain_signal, range, sample_street,
-};
 use std::alloc::{AllocError, Global};
 use std::test::Fail;
 

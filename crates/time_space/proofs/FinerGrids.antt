@@ -48,7 +48,8 @@ module _ (a : Street) (t : TimingRecord) (m : ℕ) where
   run_finer Inbound i = get_or-scale t.run_in (i - 1) m
 
   pub ahead_finer : (d : Dir) (i : ℕ) → ahead a (finer m t) d i ≡ ahead a t d i * m
-  ahead_finer d i = elim (is_early d (pattern_of t i)) as (λ b. (if b then left_against a d i * (t.unit * m) else 0) ≡ (if b then left_against a d i * t.unit else 0) * m) [ true ↦ omega arith | false ↦ omega arith ]
+  ahead_finer d i = elim (is_early d (pattern_of t i)) as (λ b. (if b then left_against a d i * (t.unit * m) else 0) ≡ (if b then left_against a d i * t.unit else 0) * m)
+      [ true ↦ omega arith | false ↦ omega arith ]
 
   pub red_start_finer : (d : Dir) (i : ℕ) → red_start a (finer m t) d i ≡ red_start a t d i *ℤ pos m
   red_start_finer d i = rw (get_or-scale_ℤ t.reds (i - 1) m, ahead_finer d i) (minus_scale (common_red t i) (pos (ahead a t d i)) m)
@@ -158,10 +159,12 @@ module _ (a : Street) (t : TimingRecord) (m : ℕ) (h : IsValid a) (u : 2 ≤ t.
   slow_finer : (d : Dir) (i : ℕ) → (number (run t d i) ≤ℚ (run_high a d i *ℚ number t.grid)) ↔ (number (run (finer m t) d i) ≤ℚ (run_high a d i *ℚ number (t.grid * m)))
   slow_finer d i = rw (run_finer a t m d i) (most_finer (run_high a d i) t.grid (run t d i) m q)
 
-  rises_finer : (d : Dir) (i : ℕ) → IfSome (change a d i) (λ (c : Pair). pace_change a t d i ≤ℚ (c.most *ℚ number t.grid)) ↔ IfSome (change a d i) (λ (c : Pair). pace_change a (finer m t) d i ≤ℚ (c.most *ℚ number (t.grid * m)))
+  rises_finer : (d : Dir) (i : ℕ) → IfSome (change a d i) (λ (c : Pair). pace_change a t d i ≤ℚ (c.most *ℚ number t.grid)) ↔ IfSome (change a d i)
+      (λ (c : Pair). pace_change a (finer m t) d i ≤ℚ (c.most *ℚ number (t.grid * m)))
   rises_finer d i = if_some_both (change a d i) _ _ (λ (c : Pair). rise_finer d i c.most)
 
-  drops_finer : (d : Dir) (i : ℕ) → IfSome (change a d i) (λ (c : Pair). (c.least *ℚ number t.grid) ≤ℚ pace_change a t d i) ↔ IfSome (change a d i) (λ (c : Pair). (c.least *ℚ number (t.grid * m)) ≤ℚ pace_change a (finer m t) d i)
+  drops_finer : (d : Dir) (i : ℕ) → IfSome (change a d i) (λ (c : Pair). (c.least *ℚ number t.grid) ≤ℚ pace_change a t d i) ↔ IfSome (change a d i)
+      (λ (c : Pair). (c.least *ℚ number (t.grid * m)) ≤ℚ pace_change a (finer m t) d i)
   drops_finer d i = if_some_both (change a d i) _ _ (λ (c : Pair). drop_finer d i c.least)
 
   plan_finer : IsTimingRecord t → IsTimingRecord (finer m t)

@@ -67,7 +67,8 @@ module _ (a : Street) (t : TimingRecord) where
   }
   no_later_pattern b i h g w = record { rule = b g w; direction = λ e. absurd (omega (arith, e)); place = λ e f. absurd (omega (arith, e)) }
 
-  pub first_pattern : NoneBefore a t 1 → (i : ℕ) → HasSignal a i → allows a i (pattern_of t i) ≡ false → ((k : ℕ) → 1 ≤ k → k < i → IsTrue (allows a k (pattern_of t k))) → IsFirstFailing a t (failing.Pattern i)
+  pub first_pattern : NoneBefore a t 1 → (i : ℕ) → HasSignal a i → allows a i (pattern_of t i) ≡ false → ((k : ℕ) → 1 ≤ k → k < i → IsTrue (allows a k (pattern_of t k)))
+      → IsFirstFailing a t (failing.Pattern i)
   first_pattern b i has refused h = record { fails = (has, refused); first = no_later_pattern b i h }
 
   -- ---- links
@@ -157,14 +158,16 @@ module _ (a : Street) (t : TimingRecord) where
   blocked_later d signal other tick moment f w = elim (cases_lt w.at f.at) [ inl below ↦ absurd (not_both a t d w.at w.here.after (f.green_before w.at below) w.here.blocked) | inr above ↦ above ]
 
   no_later_outbound : NoneBefore a t 11 → (signal : ℕ) (tick : ℤ) → IsFirstBlocked a t Outbound signal tick → (g : Failing) → Fails a t g → IsNoLater a (failing.Outbound signal tick) g
-  no_later_outbound b signal tick f (failing.Outbound i other) w = let above = blocked_later Outbound signal i tick other f w in let here = w.here.signal_is in let first = f.here.signal_is in record { rule = omega arith; direction = λ e. omega arith; place = λ e q. omega (arith, above, here, first) }
+  no_later_outbound b signal tick f (failing.Outbound i other) w = let above = blocked_later Outbound signal i tick other f w in let here = w.here.signal_is in
+      let first = f.here.signal_is in record { rule = omega arith; direction = λ e. omega arith; place = λ e q. omega (arith, above, here, first) }
   no_later_outbound b signal tick f g w = record { rule = b g w; direction = λ e. absurd (omega (arith, e)); place = λ e q. absurd (omega (arith, e)) }
 
   pub first_outbound : NoneBefore a t 11 → (signal : ℕ) (tick : ℤ) → IsFirstBlocked a t Outbound signal tick → IsFirstFailing a t (failing.Outbound signal tick)
   first_outbound b signal tick f = record { fails = record { at = f.at; on_way = f.on_way; here = f.here }; first = no_later_outbound b signal tick f }
 
   no_later_inbound : NoneBefore a t 12 → (signal : ℕ) (tick : ℤ) → IsFirstBlocked a t Inbound signal tick → (g : Failing) → Fails a t g → IsNoLater a (failing.Inbound signal tick) g
-  no_later_inbound b signal tick f (failing.Inbound i other) w = let above = blocked_later Inbound signal i tick other f w in let here = w.here.signal_is in let first = f.here.signal_is in record { rule = omega arith; direction = λ e. omega arith; place = λ e q. omega (arith, above, here, first) }
+  no_later_inbound b signal tick f (failing.Inbound i other) w = let above = blocked_later Inbound signal i tick other f w in let here = w.here.signal_is in
+      let first = f.here.signal_is in record { rule = omega arith; direction = λ e. omega arith; place = λ e q. omega (arith, above, here, first) }
   no_later_inbound b signal tick f g w = record { rule = b g w; direction = λ e. absurd (omega (arith, e)); place = λ e q. absurd (omega (arith, e)) }
 
   pub first_inbound : NoneBefore a t 12 → (signal : ℕ) (tick : ℤ) → IsFirstBlocked a t Inbound signal tick → IsFirstFailing a t (failing.Inbound signal tick)

@@ -47,10 +47,12 @@ same_dir Inbound Inbound h = refl
 same_dir Outbound Inbound h = absurd (omega (arith, h))
 same_dir Inbound Outbound h = absurd (omega (arith, h))
 
-blocked_out : (a : Street) (t : TimingRecord) (i j : ℕ) (x y : ℤ) → i ≡ j → IsBlockedSomewhere a t Outbound i x → IsBlockedSomewhere a t Outbound j y → ◌≡◌ {A = Failing} (failing.Outbound i x) (failing.Outbound j y)
+blocked_out : (a : Street) (t : TimingRecord) (i j : ℕ) (x y : ℤ) → i ≡ j → IsBlockedSomewhere a t Outbound i x → IsBlockedSomewhere a t Outbound j y
+    → ◌≡◌ {A = Failing} (failing.Outbound i x) (failing.Outbound j y)
 blocked_out a t i j x y e p q = let h = one_block a t Outbound i x y p (subst (λ m. IsBlockedSomewhere a t Outbound m y) (sym e) q) in λ k. failing.Outbound (e k) (h k)
 
-blocked_in : (a : Street) (t : TimingRecord) (i j : ℕ) (x y : ℤ) → i ≡ j → IsBlockedSomewhere a t Inbound i x → IsBlockedSomewhere a t Inbound j y → ◌≡◌ {A = Failing} (failing.Inbound i x) (failing.Inbound j y)
+blocked_in : (a : Street) (t : TimingRecord) (i j : ℕ) (x y : ℤ) → i ≡ j → IsBlockedSomewhere a t Inbound i x → IsBlockedSomewhere a t Inbound j y
+    → ◌≡◌ {A = Failing} (failing.Inbound i x) (failing.Inbound j y)
 blocked_in a t i j x y e p q = let h = one_block a t Inbound i x y p (subst (λ m. IsBlockedSomewhere a t Inbound m y) (sym e) q) in λ k. failing.Inbound (e k) (h k)
 
 -- a signal of the inbound way is told by its distance from the last
@@ -58,7 +60,8 @@ one_signal : (a : Street) (t : TimingRecord) (i j : ℕ) (x y : ℤ) → IsBlock
 one_signal a t i j x y p q e = let u = p.here.signal_is in let v = q.here.signal_is in let k = p.on_way in let l = q.on_way in omega (arith, e)
 
 -- failings with the same place in the order are the same
-same_failing : (a : Street) (t : TimingRecord) (f g : Failing) → Fails a t f → Fails a t g → rule_order f ≡ rule_order g → direction_order f ≡ direction_order g → place_order a f ≡ place_order a g → f ≡ g
+same_failing : (a : Street) (t : TimingRecord) (f g : Failing) → Fails a t f → Fails a t g → rule_order f ≡ rule_order g → direction_order f ≡ direction_order g
+    → place_order a f ≡ place_order a g → f ≡ g
 same_failing a t failing.Shape failing.Shape p q r d e = refl
 same_failing a t failing.CycleShort failing.CycleShort p q r d e = refl
 same_failing a t failing.CycleLong failing.CycleLong p q r d e = refl

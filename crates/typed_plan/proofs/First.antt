@@ -6,6 +6,7 @@ use Rattle.std.proofs.lemmas.Bool.Decides.{nat_tests}
 use Rattle.std.proofs.lemmas.List.Folds.{find-append}
 use Rattle.std.proofs.lemmas.List.Elements.{All-nil, All-cons, All-append}
 use Rattle.progression.specs.Columns.{numbered}
+use Rattle.typed_plan.specs.Grid.{told}
 
 abbrev pub large : ℕ → Bool
 large n = nat_le (2 ^ 80) n
@@ -18,6 +19,10 @@ is_small n h = grind (arith, nat_tests)
 
 small_of : (n : ℕ) → large n ≡ false → n < 2 ^ 80
 small_of n e = grind (arith, nat_tests)
+
+-- what is told of a number is the number itself, where it isn't large
+pub told_small : (n : ℕ) → told n < 2 ^ 80 → told n ≡ n
+told_small n h = omega (arith, h)
 
 -- ---- lists one after the other
 pub skip : (xs ys : List ℕ) → find large xs ≡ None → find large (xs ++ ys) ≡ find large ys

@@ -9,18 +9,18 @@ use Rattle.progression.specs.declared.parts.Units.{Units}
 use Rattle.progression.specs.declared.parts.Units.TheVariants.{Metric, English}
 use Rattle.progression.specs.declared.parts.Dir.{Dir}
 use Rattle.progression.specs.declared.parts.Dir.TheVariants.{Outbound, Inbound}
-use Rattle.artery_model.specs.Valid.{IsQuantity}
-use Rattle.artery_model.proofs.Quotients.{over_times, over_whole, over_positive, above_zero}
+use Rattle.artery_model.proofs.Quotients.{over_times, over_whole, over_positive}
 use Rattle.time_space.proofs.Quotients.{over_least}
-use Rattle.description_reader.specs.Typed.{Typed, IsTyped, IsMeasured}
+use Rattle.description_reader.specs.Typed.{Typed, IsWritten, IsTyped, IsMeasured}
 use Rattle.description_reader.specs.declared.measure.Measure.{Measure}
 use Rattle.description_reader.specs.declared.measure.Measure.TheVariants.{Speed, Travel}
 use Rattle.typed_plan.specs.Asked.{time_by, travel}
 use Rattle.typed_plan.specs.Counts.{HasCounts}
 use Rattle.typed_plan.specs.Grid.{time}
 use Rattle.typed_plan.specs.declared.times.Times.TheVariants.{Part}
+use Rattle.typed_plan.proofs.AtSpeed.{above_zero}
 
-at_speed : (n k : ℕ) (v : ℚ) → 0 < k → IsQuantity (pos 1) (pos 300) v → pos 0 ≤ℤ (number n /ℚ (number k *ℚ v)).num
+at_speed : (n k : ℕ) (v : ℚ) → 0 < k → IsWritten (pos 1) (pos 300) v → pos 0 ≤ℤ (number n /ℚ (number k *ℚ v)).num
 at_speed n k v some h =
     let up = above_zero v h in
     let P : ℚ → Type 0 = λ x. pos 0 ≤ℤ x.num in

@@ -9,7 +9,6 @@ use Rattle.progression.specs.declared.parts.Dir.{Dir}
 use Rattle.progression.specs.declared.parts.Dir.TheVariants.{Outbound, Inbound}
 use Rattle.artery_model.specs.Valid.{IsValid}
 use Rattle.time_space.specs.Timing.{IsTiming, plan_of}
-use Rattle.band_measure.specs.Pairs.{with_pairs}
 use Rattle.description_reader.specs.Typed.{Typed, IsTyped}
 use Rattle.typed_plan.specs.Counts.{HasCounts}
 use Rattle.typed_plan.specs.Grid.{AreLeast, least_grid, least_unit, red_tick, runs, size, too_fine, frame}
@@ -46,8 +45,8 @@ are_least a p grid unit d e valid typed fine = subst (λ g. AreLeast a p g unit)
 one_back : (n : ℕ) → 1 ≤ n → n - 1 + 1 ≡ n
 one_back n h = omega arith
 
-module _ (a : Street) (p : Typed) (grid unit : ℕ) (patterns reds run_out run_in : List ℕ) (h : AreParts a p grid unit patterns reds run_out run_in) (f b g c : ℕ) where
-  pub framed_is : plan_of grid unit patterns reds run_out run_in f b g c ≡ with_pairs (pos f) g (pos b) c (frame a p)
+module _ (a : Street) (p : Typed) (grid unit : ℕ) (patterns reds run_out run_in : List ℕ) (h : AreParts a p grid unit patterns reds run_out run_in) where
+  pub framed_is : plan_of grid unit patterns reds run_out run_in 0 0 0 0 ≡ frame a p
   framed_is = λ i. record {
     grid = h.grid_is i;
     unit = h.unit_is i;
@@ -55,14 +54,14 @@ module _ (a : Street) (p : Typed) (grid unit : ℕ) (patterns reds run_out run_i
     reds = map pos (h.reds_are i);
     run_out = h.run_out_are i;
     run_in = h.run_in_are i;
-    first_out = pos f;
-    first_in = pos b;
-    band_out = g;
-    band_in = c;
+    first_out = pos 0;
+    first_in = pos 0;
+    band_out = 0;
+    band_in = 0;
   }
 
-  module _ (valid : IsValid a) (typed : IsTyped p) (counts : HasCounts a p) (fine : too_fine a p ≡ None) (small : All (λ n. n < 2 ^ 80) reds) (fs : f < 2 ^ 80) (bs : b < 2 ^ 80) (gs : g < 2 ^ 80) (cs : c < 2 ^ 80) where
-    pub framed_timing : IsTiming grid unit patterns reds run_out run_in f b g c
+  module _ (valid : IsValid a) (typed : IsTyped p) (counts : HasCounts a p) (fine : too_fine a p ≡ None) (small : All (λ n. n < 2 ^ 80) reds) where
+    pub framed_timing : IsTiming grid unit patterns reds run_out run_in 0 0 0 0
     framed_timing =
         let parts : 1 ≤ a.head.parts = let l = valid.least_parts in omega (arith, l) in
         let few : 1 ≤ count a = let l = valid.few in omega (arith, l) in
@@ -86,8 +85,8 @@ module _ (a : Street) (p : Typed) (grid unit : ℕ) (patterns reds run_out run_i
           reds_each = small;
           run_out_each = subst AllSmall (sym h.run_out_are) limits.out;
           run_in_each = subst AllSmall (sym h.run_in_are) limits.back;
-          first_out_most = fs;
-          first_in_most = bs;
-          band_out_most = gs;
-          band_in_most = cs;
+          first_out_most = omega arith;
+          first_in_most = omega arith;
+          band_out_most = omega arith;
+          band_in_most = omega arith;
         }

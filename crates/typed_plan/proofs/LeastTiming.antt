@@ -1,5 +1,6 @@
 -- The timing on the least grid is as it was typed, and none on a coarser grid is.
-use Rattle.std.proofs.Common.{◌≡◌, ◌≢◌, inl, inr, ℕ, zero, suc, ◌+◌, ◌*◌, ◌-◌, ◌/◌, ◌<◌, ◌≤◌, ◌==◌, pos, ℤ, Bool, true, false, map, get_or, refl, sym, ◌∙◌, ap, ap₂, subst, arith, unsigned_abs, mul-pos}
+use Rattle.std.proofs.Common.{◌≡◌, ◌≢◌, inl, inr, ℕ, zero, suc, ◌+◌, ◌*◌, ◌-◌, ◌/◌, ◌<◌, ◌≤◌, ◌==◌, pos, ℤ, Bool, true, false, map, get_or, refl, sym}
+use Rattle.std.proofs.Common.{◌∙◌, ap, ap₂, subst, arith, unsigned_abs, mul-pos}
 use Rattle.std.specs.Prelude.{◌*ℤ◌, ◌+ℤ◌, ◌-ℤ◌, ◌≤ℤ◌, neg_ℤ, if◌then◌else◌}
 use Rattle.std.proofs.lemmas.Int.{ints}
 use Rattle.std.proofs.lemmas.Bool.{cases_eq}
@@ -22,13 +23,12 @@ use Rattle.progression.specs.declared.parts.Dir.{Dir}
 use Rattle.progression.specs.declared.parts.Dir.TheVariants.{Outbound, Inbound}
 use Rattle.band_measure.specs.Pairs.{with_pairs}
 use Rattle.description_reader.specs.Typed.{Typed}
-use Rattle.description_reader.specs.declared.measure.Reference.{Reference}
-use Rattle.description_reader.specs.declared.measure.Reference.TheVariants.{Red, Green}
 use Rattle.typed_plan.specs.Asked.{offset, after, travel, moment, in_seconds, IsAfter, IsAsTyped, IsLeast}
 use Rattle.typed_plan.specs.Counts.{HasCounts}
 use Rattle.typed_plan.specs.Ends.{StartsAtOnce}
 use Rattle.typed_plan.specs.Grid.{time, shared, ticks, doubled, least_grid, size, least_unit, lead, red_tick, frame}
 use Rattle.typed_plan.specs.declared.times.Times.TheVariants.{Part, Run}
+use Rattle.typed_plan.proofs.Moments.{moment_is}
 use Rattle.typed_plan.proofs.Shared.{over_divides, shared_above, has_part, has_after, has_run, shared_least}
 use Rattle.typed_plan.proofs.Ticks.{cross_of, nat_ratio, same_over, over_ticks, ticks_up, cycle_of_parts, part_of_cycle}
 
@@ -195,10 +195,6 @@ module _ (a : Street) (p : Typed) (parts : 1 ≤ a.head.parts) (begun : pos 1 �
         ∙ ap (λ z. over z (least_grid a p)) (ticks_up (least_grid a p) (travel a p d i) (forward d i h))
         ∙ over_ticks (least_grid a p) (travel a p d i) grid_above (multiple_on grid_multiple (has_run a p d i h.0 h.1))
 
-    moment_is : (r : Reference) (i : ℕ) → moment a r timing i ≡ common_red timing i +ℤ pos (lead a p r i)
-    moment_is Red i = omega (arith, ints)
-    moment_is Green i = refl
-
     red_is : (i : ℕ) → HasSignal a i → common_red timing i ≡ pos (red_tick a p i)
     red_is i h = get_mapped (count a) 1 (i - 1) (red_tick a p) (omega (arith, h.0, h.1)) ∙ ap (λ n. pos (red_tick a p n)) (omega (arith, h.0))
 
@@ -209,24 +205,24 @@ module _ (a : Street) (p : Typed) (parts : 1 ≤ a.head.parts) (begun : pos 1 �
     some_cycle = let unit = unit_least in mul-pos parts (omega (arith, unit))
 
     abbrev turns : ℕ → ℤ
-    turns i = quot_ℤ (ticks (least_grid a p) (after p i) +ℤ pos (lead a p p.reference 1) -ℤ pos (lead a p p.reference i)) (cycle a timing)
+    turns i = quot_ℤ (ticks (least_grid a p) (after p i) +ℤ lead a p 1 -ℤ lead a p i) (cycle a timing)
 
     later_is : (i : ℕ) → HasSignal a i
         → moment a p.reference timing i -ℤ moment a p.reference timing 1 +ℤ (turns i -ℤ turns 1) *ℤ pos (cycle a timing) ≡ ticks (least_grid a p) (after p i)
     later_is i h =
         let some = some_cycle in
-        let here = split_ℤ (ticks (least_grid a p) (after p i) +ℤ pos (lead a p p.reference 1) -ℤ pos (lead a p p.reference i)) (cycle a timing) some in
-        let first = split_ℤ (ticks (least_grid a p) (after p 1) +ℤ pos (lead a p p.reference 1) -ℤ pos (lead a p p.reference 1)) (cycle a timing) some in
+        let here = split_ℤ (ticks (least_grid a p) (after p i) +ℤ lead a p 1 -ℤ lead a p i) (cycle a timing) some in
+        let first = split_ℤ (ticks (least_grid a p) (after p 1) +ℤ lead a p 1 -ℤ lead a p 1) (cycle a timing) some in
         ap₂ (λ u v. u -ℤ v +ℤ (turns i -ℤ turns 1) *ℤ pos (cycle a timing))
-        (moment_is p.reference i ∙ ap (λ z. z +ℤ pos (lead a p p.reference i)) (red_is i h))
-        (moment_is p.reference 1 ∙ ap (λ z. z +ℤ pos (lead a p p.reference 1)) (red_is 1 (omega arith, few)))
-        ∙ cycles_apart (pos (red_tick a p i)) (pos (red_tick a p 1)) (ticks (least_grid a p) (after p i)) (pos (lead a p p.reference i)) (pos (lead a p p.reference 1)) (pos (cycle a timing))
-        (turns i) (turns 1) here (ap (λ z. z +ℤ pos (lead a p p.reference 1) -ℤ pos (lead a p p.reference 1)) (sym no_ticks) ∙ first)
+        (moment_is a p.reference timing i ∙ ap (λ z. z +ℤ lead a p i) (red_is i h))
+        (moment_is a p.reference timing 1 ∙ ap (λ z. z +ℤ lead a p 1) (red_is 1 (omega arith, few)))
+        ∙ cycles_apart (pos (red_tick a p i)) (pos (red_tick a p 1)) (ticks (least_grid a p) (after p i)) (lead a p i) (lead a p 1) (pos (cycle a timing))
+        (turns i) (turns 1) here (ap (λ z. z +ℤ lead a p 1 -ℤ lead a p 1) (sym no_ticks) ∙ first)
 
     pub first_red : common_red timing 1 ≡ pos 0
     first_red =
         let e = no_ticks in
-        let z = ticks (least_grid a p) (after p 1) +ℤ pos (lead a p p.reference 1) -ℤ pos (lead a p p.reference 1) in
+        let z = ticks (least_grid a p) (after p 1) +ℤ lead a p 1 -ℤ lead a p 1 in
         let zero : z ≡ pos 0 *ℤ pos (cycle a timing) +ℤ pos 0 = omega (arith, ints, e) in
         red_is 1 (omega arith, few) ∙ ap pos (mod_unique z (pos 0) (cycle a timing) 0 zero some_cycle)
 
@@ -234,7 +230,7 @@ module _ (a : Street) (p : Typed) (parts : 1 ≤ a.head.parts) (begun : pos 1 �
     red_starts i h = record {
       tick = red_tick a p i;
       is = red_is i h;
-      below = mod_below (ticks (least_grid a p) (after p i) +ℤ pos (lead a p p.reference 1) -ℤ pos (lead a p p.reference i)) (cycle a timing) some_cycle;
+      below = mod_below (ticks (least_grid a p) (after p i) +ℤ lead a p 1 -ℤ lead a p i) (cycle a timing) some_cycle;
     }
 
     offset_is : (i : ℕ) → HasSignal a i → IsAfter a p timing i

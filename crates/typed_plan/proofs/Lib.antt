@@ -2,6 +2,8 @@ pub mod Counted
 pub mod Sizes
 pub mod Shared
 pub mod Ticks
+pub mod AtSpeed
+pub mod Moments
 pub mod LeastTiming
 pub mod First
 pub mod Chain

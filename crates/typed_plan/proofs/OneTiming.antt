@@ -1,6 +1,6 @@
 -- A plan has at most one timing.
-use Rattle.std.proofs.Common.{◌≡◌, ◌⊎◌, inl, inr, ℕ, ℤ, ◌+◌, ◌-◌, ◌*◌, ◌<◌, ◌≤◌, pos, length, get_or, refl, sym, ◌∙◌, ap, ap₂, subst, arith, unsigned_abs}
-use Rattle.std.specs.Prelude.{◌+ℤ◌, ◌-ℤ◌, ◌*ℤ◌, neg_ℤ}
+use Rattle.std.proofs.Common.{◌≡◌, ℕ, ℤ, ◌+◌, ◌-◌, ◌*◌, ◌<◌, ◌≤◌, pos, length, get_or, refl, sym, ◌∙◌, ap, ap₂, subst, arith, unsigned_abs}
+use Rattle.std.specs.Prelude.{◌+ℤ◌, ◌-ℤ◌, ◌*ℤ◌, neg_ℤ, slice_index, Option, None, Some}
 use Rattle.std.proofs.lemmas.Int.{ints}
 use Rattle.std.proofs.lemmas.List.{ext_get_or}
 use native.Mathlib.Nat.{eq_of_mul-eq-mul_right}
@@ -9,20 +9,25 @@ use Rattle.rational_theory.specs.Rational.{over}
 use Rattle.rational_theory.proofs.Arithmetic.{over_ratio}
 use Rattle.rational_theory.proofs.Integers.{+ℤ-*ℤ, neg_ℤ-*ℤ}
 use Rattle.progression.proofs.Remainders.{mod_unique}
-use Rattle.progression.specs.Street.{Street, count, HasSignal, HasLink, signal_of}
-use Rattle.progression.specs.TimingRecord.{TimingRecord, cycle, common_red, run, first, band}
+use Rattle.progression.specs.Street.{Street, count, HasSignal, HasLink}
+use Rattle.progression.specs.TimingRecord.{TimingRecord, cycle, pattern_of, common_red, run}
 use Rattle.progression.specs.declared.parts.Dir.{Dir}
 use Rattle.progression.specs.declared.parts.Dir.TheVariants.{Outbound, Inbound}
 use Rattle.artery_model.specs.Valid.{IsValid}
 use Rattle.band_measure.specs.Pairs.{with_pairs}
-use Rattle.band_measure.specs.Widest.{IsWidest, NoneRuns}
+use Rattle.band_measure.specs.Widest.{IsWidestBand}
+use Rattle.band_measure.specs.declared.pair.Widest.{Widest}
+use Rattle.band_measure.specs.declared.bands.Bands.{Bands}
+use Rattle.band_measure.proofs.Cuts.{one_cut_of}
 use Rattle.band_measure.proofs.AllGrids.{finer_pairs, one_widest}
 use Rattle.description_reader.specs.Typed.{Typed}
 use Rattle.description_reader.specs.declared.measure.Reference.{Reference}
-use Rattle.description_reader.specs.declared.measure.Reference.TheVariants.{Red, Green}
 use Rattle.typed_plan.specs.Asked.{moment}
-use Rattle.typed_plan.specs.Ends.{IsTimingOf, OneTiming}
+use Rattle.typed_plan.specs.Ends.{ArePut, pair_or_none, IsTimingOf, OneTiming}
+use Rattle.typed_plan.specs.Grid.{moment_part}
+use Rattle.typed_plan.specs.declared.timing.Measured.{Measured}
 use Rattle.typed_plan.proofs.Counted.{has_counts}
+use Rattle.typed_plan.proofs.Moments.{moment_is}
 use Rattle.typed_plan.proofs.Ticks.{cross_of}
 use Rattle.typed_plan.proofs.Timed.{moved}
 
@@ -43,13 +48,8 @@ red_once r q c u v x y e l m =
     sym (mod_unique (pos r) (pos 0) c r own l) ∙ mod_unique (pos r) (y -ℤ x) c q other m
 
 -- from the start of the red to the moment from which the offset counts, where a part has so many ticks
-abbrev lead_by : Street → Reference → ℕ → ℕ → ℤ
-lead_by a Red unit i = pos 0
-lead_by a Green unit i = pos ((signal_of a i).red * unit)
-
-moment_by : (a : Street) (r : Reference) (t : TimingRecord) (i : ℕ) → moment a r t i ≡ common_red t i +ℤ lead_by a r t.unit i
-moment_by a Red t i = omega (arith, ints)
-moment_by a Green t i = refl
+abbrev lead_by : Street → Reference → ℕ → ℕ → ℕ → ℤ
+lead_by a r pattern unit i = moment_part a r pattern i *ℤ pos unit
 
 both_least : (m n : ℕ) → m ≤ n → n ≤ m → m ≡ n
 both_least m n h k = omega arith
@@ -58,7 +58,13 @@ both_least m n h k = omega arith
 abbrev bare : TimingRecord → TimingRecord
 bare t = with_pairs (pos 0) 0 (pos 0) 0 t
 
-module _ (a : Street) (p : Typed) (t s : TimingRecord) (valid : IsValid a) (h : IsTimingOf a p t) (k : IsTimingOf a p s) where
+module _ (a : Street) (p : Typed) (m n : Measured) (valid : IsValid a) (h : IsTimingOf a p m) (k : IsTimingOf a p n) where
+  abbrev t : TimingRecord
+  t = m.timing
+
+  abbrev s : TimingRecord
+  s = n.timing
+
   same_grid : t.grid ≡ s.grid
   same_grid = both_least t.grid s.grid (h.least.grid s k.least.as_typed) (k.least.grid t h.least.as_typed)
 
@@ -94,14 +100,17 @@ module _ (a : Street) (p : Typed) (t s : TimingRecord) (valid : IsValid a) (h : 
       subst (λ j. get_or t.run_in j 0 ≡ get_or s.run_in j 0) (back_again i) (same_run Inbound (i + 1) (omega arith, omega (arith, l, own, w))))
 
   -- the moments, from the ticks of the reds
-  from_reds : (r q : ℕ) (v : TimingRecord) (i : ℕ) (x : ℤ) → common_red v i ≡ pos r → common_red v 1 ≡ pos 0 → v.unit ≡ t.unit → cycle a v ≡ cycle a t
+  from_reds : (r : ℕ) (v : TimingRecord) (i : ℕ) (x : ℤ) → common_red v i ≡ pos r → common_red v 1 ≡ pos 0 → v.unit ≡ t.unit → v.patterns ≡ t.patterns → cycle a v ≡ cycle a t
       → moment a p.reference v i -ℤ moment a p.reference v 1 +ℤ x *ℤ pos (cycle a v)
-      ≡ (pos r +ℤ lead_by a p.reference t.unit i) -ℤ (pos 0 +ℤ lead_by a p.reference t.unit 1) +ℤ x *ℤ pos (cycle a t)
-  from_reds r q v i x e f u c =
-      ap₂ (λ m n. m -ℤ n +ℤ x *ℤ pos (cycle a v))
-      (moment_by a p.reference v i ∙ ap₂ (λ m n. m +ℤ lead_by a p.reference n i) e u)
-      (moment_by a p.reference v 1 ∙ ap₂ (λ m n. m +ℤ lead_by a p.reference n 1) f u)
-      ∙ ap (λ n. (pos r +ℤ lead_by a p.reference t.unit i) -ℤ (pos 0 +ℤ lead_by a p.reference t.unit 1) +ℤ x *ℤ pos n) c
+      ≡ (pos r +ℤ lead_by a p.reference (pattern_of t i) t.unit i) -ℤ (pos 0 +ℤ lead_by a p.reference (pattern_of t 1) t.unit 1) +ℤ x *ℤ pos (cycle a t)
+  from_reds r v i x e f u l c =
+      ap₂ (λ m n. m -ℤ n +ℤ x *ℤ pos (cycle a v)) (at i (pos r) e) (at 1 (pos 0) f)
+      ∙ ap (λ n. (pos r +ℤ lead_by a p.reference (pattern_of t i) t.unit i) -ℤ (pos 0 +ℤ lead_by a p.reference (pattern_of t 1) t.unit 1) +ℤ x *ℤ pos n) c
+    where
+      at : (j : ℕ) (z : ℤ) → common_red v j ≡ z → moment a p.reference v j ≡ z +ℤ lead_by a p.reference (pattern_of t j) t.unit j
+      at j z g =
+          moment_is a p.reference v j ∙ ap₂ (λ m n. m +ℤ lead_by a p.reference (pattern_of v j) n j) g u
+          ∙ ap (λ xs. z +ℤ lead_by a p.reference (slice_index xs (j - 1)) t.unit j) l
 
   same_red : (i : ℕ) → HasSignal a i → common_red t i ≡ common_red s i
   same_red i l =
@@ -109,8 +118,8 @@ module _ (a : Street) (p : Typed) (t s : TimingRecord) (valid : IsValid a) (h : 
       let r = h.reds i l in let q = k.reds i l in
       let e = over_once _ _ t.grid s.grid h.least.as_typed.plan.grid same_grid (x.later ∙ sym y.later) in
       let n : r.tick ≡ q.tick =
-      red_once r.tick q.tick (cycle a t) (lead_by a p.reference t.unit i) (lead_by a p.reference t.unit 1) x.k y.k
-      (sym (from_reds r.tick q.tick t i x.k r.is h.first refl refl) ∙ e ∙ from_reds q.tick r.tick s i y.k q.is k.first (sym same_unit) (sym same_cycle))
+      red_once r.tick q.tick (cycle a t) (lead_by a p.reference (pattern_of t i) t.unit i) (lead_by a p.reference (pattern_of t 1) t.unit 1) x.k y.k
+      (sym (from_reds r.tick t i x.k r.is h.first refl refl refl) ∙ e ∙ from_reds q.tick s i y.k q.is k.first (sym same_unit) (sym same_patterns) (sym same_cycle))
       r.below (subst (λ c. q.tick < c) (sym same_cycle) q.below) in
       r.is ∙ ap pos n ∙ sym q.is
 
@@ -138,32 +147,63 @@ module _ (a : Street) (p : Typed) (t s : TimingRecord) (valid : IsValid a) (h : 
   same_bare : bare t ≡ bare s
   same_bare = same_with (pos 0) (pos 0) 0 0 (pos 0) (pos 0) 0 0 refl refl refl refl
 
-  some_runs : (d : Dir) (first band : ℕ) → IsWidest a (bare t) d first band → NoneRuns a (bare t) d → ⊥
-  some_runs d first band w none =
-      none 1 (pos first *ℤ pos 1) (band * 1) (omega arith) ((finer_pairs a (bare t) d 1 (pos first) band valid h.least.as_typed.plan.unit (omega arith)).0 w.runs)
+  -- of one direction
+  some_runs : (d : Dir) (w : Widest) → IsWidestBand a (bare t) d (Some w) → IsWidestBand a (bare t) d None → ⊥
+  some_runs d w widest none =
+      none 1 (pos w.first *ℤ pos 1) (w.band * 1) (omega arith) ((finer_pairs a (bare t) d 1 (pos w.first) w.band valid h.least.as_typed.plan.unit (omega arith)).0 widest.runs)
 
-  bands : (d : Dir) (f g b c : ℕ) → (IsWidest a (bare t) d f b ⊎ (NoneRuns a (bare t) d × (f ≡ 0) × (b ≡ 0)))
-      → (IsWidest a (bare t) d g c ⊎ (NoneRuns a (bare t) d × (g ≡ 0) × (c ≡ 0))) → (f ≡ g) × (b ≡ c)
-  bands d f g b c (inl w) (inl v) = one_widest a (bare t) d f b g c valid h.least.as_typed.plan.unit w v
-  bands d f g b c (inl w) (inr n) = absurd (some_runs d f b w n.0)
-  bands d f g b c (inr n) (inl v) = absurd (some_runs d g c v n.0)
-  bands d f g b c (inr n) (inr m) = (n.1 ∙ sym m.1, n.2 ∙ sym m.2)
+  same_widest : (d : Dir) (x y : Option Widest) → IsWidestBand a (bare t) d x → IsWidestBand a (bare t) d y → x ≡ y
+  same_widest d None None g l = refl
+  same_widest d None (Some w) g l = absurd (some_runs d w l g)
+  same_widest d (Some v) None g l = absurd (some_runs d v g l)
+  same_widest d (Some v) (Some w) g l =
+      let e = one_widest a (bare t) d v.first v.band w.first w.band valid h.least.as_typed.plan.unit g l in
+      ap₂ (λ first band. Some (record { first = first; band = band })) e.0 e.1
 
-  bare_of : (v : TimingRecord) (d : Dir) (f b : ℕ) → (IsWidest a v d f b ⊎ (NoneRuns a v d × (f ≡ 0) × (b ≡ 0))) → (IsWidest a (bare v) d f b ⊎ (NoneRuns a (bare v) d × (f ≡ 0) × (b ≡ 0)))
-  bare_of v d f b (inl w) = inl (moved a v (pos 0) 0 (pos 0) 0 d f b w)
-  bare_of v d f b (inr n) = inr n
+  on_bare : (v : TimingRecord) (d : Dir) (found : Option Widest) → IsWidestBand a v d found → IsWidestBand a (bare v) d found
+  on_bare v d found g = moved a v (pos 0) 0 (pos 0) 0 d found g
 
-  same_pair : (d : Dir) → (first t d ≡ first s d) × (band t d ≡ band s d)
-  same_pair d =
-      let x = h.widest d in let y = k.widest d in
-      let Found : TimingRecord → Type 0 = λ v. IsWidest a v d y.at (band s d) ⊎ (NoneRuns a v d × (y.at ≡ 0) × (band s d ≡ 0)) in
-      let e = bands d x.at y.at (band t d) (band s d) (bare_of t d x.at (band t d) x.widest) (subst Found (sym same_bare) (bare_of s d y.at (band s d) y.widest)) in
-      (x.first ∙ ap pos e.0 ∙ sym y.first, e.1)
+  same_found : (d : Dir) (x y : Option Widest) → IsWidestBand a t d x → IsWidestBand a s d y → x ≡ y
+  same_found d x y g l = same_widest d x y (on_bare t d x g) (subst (λ v. IsWidestBand a v d y) (sym same_bare) (on_bare s d y l))
+
+  natural_ratio : pos (unsigned_abs a.head.ratio.num) ≡ a.head.ratio.num
+  natural_ratio = let l = valid.ratio.least in omega (arith, ints, l)
+
+  -- what is put of them
+  same_put : (u v w x y z : Option Widest) → ArePut a u v w x → ArePut a u v y z → (w ≡ y) × (x ≡ z)
+  same_put (Some u) (Some v) (Some w) (Some x) (Some y) (Some z) g l =
+      let e = one_cut_of a (unsigned_abs a.head.ratio.num) natural_ratio (record { outbound = u.band; inbound = v.band }) (record { outbound = w.band; inbound = x.band })
+      (record { outbound = y.band; inbound = z.band }) g.bands l.bands in (
+        ap₂ (λ first band. Some (record { first = first; band = band })) (g.first_out ∙ sym l.first_out) (ap (λ (b : Bands). b.outbound) e),
+        ap₂ (λ first band. Some (record { first = first; band = band })) (g.first_in ∙ sym l.first_in) (ap (λ (b : Bands). b.inbound) e),
+      )
+  same_put (Some u) (Some v) None x y z g l = absurd (let e = g.0 in cc)
+  same_put (Some u) (Some v) (Some w) None y z g l = absurd (let e = g.1 in cc)
+  same_put (Some u) (Some v) (Some w) (Some x) None z g l = absurd (let e = l.0 in cc)
+  same_put (Some u) (Some v) (Some w) (Some x) (Some y) None g l = absurd (let e = l.1 in cc)
+  same_put None v w x y z g l = (g.0 ∙ sym l.0, g.1 ∙ sym l.1)
+  same_put (Some u) None w x y z g l = (g.0 ∙ sym l.0, g.1 ∙ sym l.1)
+
+  same_there : h.there ≡ k.there
+  same_there = same_found Outbound h.there k.there h.widest_out k.widest_out
+
+  same_back : h.back ≡ k.back
+  same_back = same_found Inbound h.back k.back h.widest_in k.widest_in
+
+  same_pairs : (m.outbound ≡ n.outbound) × (m.inbound ≡ n.inbound)
+  same_pairs =
+      same_put h.there h.back m.outbound m.inbound n.outbound n.inbound h.put
+      (subst (λ v. ArePut a h.there v n.outbound n.inbound) (sym same_back) (subst (λ u. ArePut a u k.back n.outbound n.inbound) (sym same_there) k.put))
 
   same_timing : t ≡ s
   same_timing =
-      let there = same_pair Outbound in let back = same_pair Inbound in
-      same_with t.first_out s.first_out t.band_out s.band_out t.first_in s.first_in t.band_in s.band_in there.0 there.1 back.0 back.1
+      let e = same_pairs in
+      h.pairs ∙ same_with (pos (pair_or_none m.outbound).first) (pos (pair_or_none n.outbound).first) (pair_or_none m.outbound).band (pair_or_none n.outbound).band
+      (pos (pair_or_none m.inbound).first) (pos (pair_or_none n.inbound).first) (pair_or_none m.inbound).band (pair_or_none n.inbound).band
+      (ap (λ o. pos (pair_or_none o).first) e.0) (ap (λ o. (pair_or_none o).band) e.0) (ap (λ o. pos (pair_or_none o).first) e.1) (ap (λ o. (pair_or_none o).band) e.1) ∙ sym k.pairs
+
+  same_measured : m ≡ n
+  same_measured = let e = same_pairs in λ i. record { timing = same_timing i; outbound = e.0 i; inbound = e.1 i }
 
 pub one_timing : OneTiming
-one_timing a p t s valid h k = same_timing a p t s valid h k
+one_timing a p m n valid h k = same_measured a p m n valid h k

@@ -11,14 +11,15 @@ use Rattle.progression.specs.declared.parts.Dir.{Dir}
 use Rattle.progression.specs.declared.parts.Dir.TheVariants.{Outbound, Inbound}
 use Rattle.progression.specs.declared.parts.Units.{Units}
 use Rattle.progression.specs.declared.parts.Units.TheVariants.{Metric, English}
-use Rattle.artery_model.specs.Valid.{IsValid, IsQuantity}
-use Rattle.artery_model.proofs.Quotients.{over_times, over_positive, above_zero}
-use Rattle.description_reader.specs.Typed.{Typed, IsTyped, IsMeasured, measure, measured}
+use Rattle.artery_model.specs.Valid.{IsValid}
+use Rattle.artery_model.proofs.Quotients.{over_times, over_positive}
+use Rattle.description_reader.specs.Typed.{Typed, IsWritten, IsTyped, IsMeasured, measure, measured}
 use Rattle.description_reader.specs.declared.measure.Measure.{Measure}
 use Rattle.typed_plan.specs.Asked.{time_by, in_seconds}
 use Rattle.typed_plan.specs.Counts.{HasCounts}
 use Rattle.typed_plan.specs.Ends.{SpeedsComeBack}
 use Rattle.typed_plan.proofs.Counted.{has_counts}
+use Rattle.typed_plan.proofs.AtSpeed.{above_zero}
 use Rattle.typed_plan.proofs.Ticks.{cross_of, nat_ratio}
 
 -- a number above 0 in its own terms
@@ -39,7 +40,7 @@ back_at n k a v some under e h =
     sym (over_times n k b x f g under)
     ∙ same_ratio _ _ _ _ _ _ _ _ (nat_ratio (n * x.den) (k * b) (mul-pos under g)) (own v a e) (omega (arith, c))
 
-pub seconds_back : (u : Units) (d : ℕ) (v : ℚ) → 0 < d → IsQuantity (pos 1) (pos 300) v → seconds u d (seconds u d v) ≡ v
+pub seconds_back : (u : Units) (d : ℕ) (v : ℚ) → 0 < d → IsWritten (pos 1) (pos 300) v → seconds u d (seconds u d v) ≡ v
 seconds_back Metric d v h q = let up = above_zero v q in back_at (18 * d) 5 (unsigned_abs v.num) v (omega (arith, h)) (omega arith) up.0 up.1
 seconds_back English d v h q = let up = above_zero v q in back_at (15 * d) 22 (unsigned_abs v.num) v (omega (arith, h)) (omega arith) up.0 up.1
 
@@ -53,11 +54,12 @@ typed_at a p typed counts Outbound i l = let c = counts.links Outbound in typed.
 typed_at a p typed counts Inbound i l = let c = counts.links Inbound in typed.back (i - 1) (whole (pos 0)) (omega (arith, c, l.0, l.1))
 
 pub speeds_come_back : SpeedsComeBack
-speeds_come_back a p t d i valid typed h l e =
+speeds_come_back a p m d i valid typed h l e =
+    let t = m.timing in
     let few = valid.few in
     let q = slice_index_or (measured p d) (i - 1) (whole (pos 0)) in
     let n = distance a d i in
-    let AtSpeed : Measure → Type 0 = λ m. IsMeasured m q in
-    let given : IsQuantity (pos 1) (pos 300) q = subst AtSpeed e (typed_at a p typed (has_counts a p (omega (arith, few)) h.counts) d i l) in
-    let took : in_seconds t (pos (run t d i)) ≡ seconds a.head.units n q = h.least.as_typed.runs d i l ∙ ap (λ m. time_by m a.head.units n q) e in
+    let AtSpeed : Measure → Type 0 = λ k. IsMeasured k q in
+    let given : IsWritten (pos 1) (pos 300) q = subst AtSpeed e (typed_at a p typed (has_counts a p (omega (arith, few)) h.counts) d i l) in
+    let took : in_seconds t (pos (run t d i)) ≡ seconds a.head.units n q = h.least.as_typed.runs d i l ∙ ap (λ k. time_by k a.head.units n q) e in
     ap (seconds a.head.units n) took ∙ seconds_back a.head.units n q (long a valid d i l) given

@@ -1,17 +1,18 @@
 -- The least grid of a plan: its numbers, and the first of them that is too large.
-use Rattle.std.specs.Prelude.{◌≡◌, ℕ, zero, suc, ◌<◌, ◌≤◌, ◌-◌, ◌*◌, ◌/◌, ◌^◌, ◌==◌, nat_le, List, [], ◌∷◌, ◌++◌, map, find, Option, ℤ, pos, ◌+ℤ◌, ◌*ℤ◌, unsigned_abs, if◌then◌else◌}
+use Rattle.std.specs.Prelude.{◌≡◌, ℕ, zero, suc, ◌<◌, ◌≤◌, ◌-◌, ◌*◌, ◌/◌, ◌^◌, ◌==◌, nat_le, List, [], ◌∷◌, ◌++◌, map, find, min, slice_index, Option, ℤ, pos, ◌+ℤ◌, ◌-ℤ◌, ◌*ℤ◌, unsigned_abs, if◌then◌else◌}
+use Rattle.std.specs.Int.{int_min}
 use Rattle.rational_theory.specs.Rational.{ℚ, ◌/ℚ◌}
 use Rattle.rational_theory.specs.Gcd.{lcm}
 use Rattle.progression.specs.Columns.{numbered}
-use Rattle.progression.specs.Green.{since}
+use Rattle.progression.specs.Green.{is_early, since}
 use Rattle.progression.specs.TimingRecord.{TimingRecord}
 use Rattle.progression.specs.Speeds.{number}
-use Rattle.progression.specs.Street.{Street, count, signal_of}
+use Rattle.progression.specs.Street.{Street, count, left_against, red_parts}
 use Rattle.progression.specs.declared.parts.Dir.{Dir}
 use Rattle.progression.specs.declared.parts.Dir.TheVariants.{Outbound, Inbound}
 use Rattle.description_reader.specs.Typed.{Typed}
 use Rattle.description_reader.specs.declared.measure.Reference.{Reference}
-use Rattle.description_reader.specs.declared.measure.Reference.TheVariants.{Red, Green}
+use Rattle.description_reader.specs.declared.measure.Reference.TheVariants.{Red, GreenOut, GreenIn, FirstGreen, EndOut, EndIn}
 use Rattle.typed_plan.specs.Asked.{after, travel}
 use Rattle.typed_plan.specs.declared.times.Times.{Times}
 use Rattle.typed_plan.specs.declared.times.Times.TheVariants.{Part, After, Run}
@@ -35,6 +36,27 @@ ticks grid x = x.num *ℤ pos (grid / x.den)
 abbrev pub doubled : ℕ → ℕ → ℕ
 doubled unit grid = if unit == 1 then 2 * grid else grid
 
+-- ---- the moments, in parts after the start of the common red, under a pattern
+-- where a direction's red starts: before the common red where the left turn against it lags
+abbrev pub start_part : Street → Dir → ℕ → ℕ → ℤ
+start_part a d pattern i = pos 0 -ℤ pos (if is_early d pattern then left_against a d i else 0)
+
+abbrev pub end_part : Street → Dir → ℕ → ℕ → ℤ
+end_part a d pattern i = start_part a d pattern i +ℤ pos (red_parts a d i)
+
+abbrev pub moment_part : Street → Reference → ℕ → ℕ → ℤ
+moment_part a Red pattern i = pos 0
+moment_part a GreenOut pattern i = end_part a Outbound pattern i
+moment_part a GreenIn pattern i = end_part a Inbound pattern i
+moment_part a FirstGreen pattern i = int_min (end_part a Outbound pattern i) (end_part a Inbound pattern i)
+moment_part a EndOut pattern i = start_part a Outbound pattern i
+moment_part a EndIn pattern i = start_part a Inbound pattern i
+
+-- ---- the first number that is too large
+-- A common multiple as it is told: what leaves 127 bits is told as the greatest number of 127 bits.
+abbrev pub told : ℕ → ℕ
+told n = min n (2 ^ 127 - 1)
+
 -- ---- the least number of ticks a second
 module _ (a : Street) (p : Typed) where
   -- the least common multiple of m and of the denominators of the first k of these times
@@ -45,8 +67,9 @@ module _ (a : Street) (p : Typed) where
   abbrev pub common_all : Times → ℕ → ℕ
   common_all times m = common times m (how_many a times)
 
+  -- these multiples, of the first, of the first two, and so on, as they are told
   abbrev pub commons : Times → ℕ → List ℕ
-  commons times m = numbered (how_many a times) 1 (common times m)
+  commons times m = numbered (how_many a times) 1 (λ k. told (common times m k))
 
   unfoldable pub with_part : ℕ
   with_part = common_all Part 1
@@ -92,14 +115,13 @@ module _ (a : Street) (p : Typed) where
     pub cycle_small : a.head.parts * unit < 2 ^ 80
 
   -- ---- the timing
-  -- by how many ticks the common red starts before the moment from which the offset counts
-  abbrev pub lead : Reference → ℕ → ℕ
-  lead Red i = 0
-  lead Green i = (signal_of a i).red * least_unit
+  -- how many ticks after the start of its common red the moment of signal i comes from which its offset counts
+  abbrev pub lead : ℕ → ℤ
+  lead i = moment_part a p.reference (slice_index p.patterns (i - 1)) i *ℤ pos least_unit
 
   -- where the common red of signal i starts, that of signal 1 at 0
   abbrev pub red_tick : ℕ → ℕ
-  red_tick i = since (a.head.parts * least_unit) (pos (lead p.reference i)) (ticks least_grid (after p i) +ℤ pos (lead p.reference 1))
+  red_tick i = since (a.head.parts * least_unit) (lead i) (ticks least_grid (after p i) +ℤ lead 1)
 
   abbrev pub frame : TimingRecord
   frame = record {

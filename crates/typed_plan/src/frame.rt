@@ -1,38 +1,100 @@
-//! The least timing of a plan, with given firsts and bands.
+//! The least timing of a plan, without bands.
 
-ghost use Rattle.std.specs.Prelude.{◌≡◌, ◌+◌, ◌*◌, ◌<◌, ◌≤◌, ◌^◌, None, All, IfOk, pos, ◌+ℤ◌, ◌-ℤ◌, unsigned_abs};
+ghost use Rattle.std.specs.Prelude.{◌≡◌, ◌*◌, ◌<◌, ◌≤◌, ◌^◌, None, All, IfOk, pos, ◌+ℤ◌, ◌-ℤ◌, ◌≤ℤ◌, unsigned_abs};
+ghost use Rattle.std.specs.Int.{int_min};
 ghost use Rattle.progression.specs.{Columns.{numbered}, Green.{mod_ℤ}, Street.{count}};
-ghost use Rattle.band_measure.specs.Pairs.{with_pairs};
-ghost use Rattle.typed_plan.specs.{Counts.{HasCounts}, Grid.{AreLeast, lead, least_grid, least_unit, red_tick, runs, too_fine, frame}};
+ghost use Rattle.typed_plan.specs.Counts.{HasCounts};
+ghost use Rattle.typed_plan.specs.Grid.{AreLeast, start_part, end_part, moment_part, lead, least_grid, least_unit, red_tick, runs, too_fine, frame};
 
-use crate::grid::{size, ticks};
+use crate::grid::{product, size, ticks};
 use crate::times::{Times, time};
 use artery_model::{Artery, Dir};
-use band_measure::{BothPairs, GridScale, timing_with};
 use description_reader::{Reference, TypedPlan};
 use narrow_fraction::Memory;
 use std::alloc::Global;
-use time_space::Timing;
+use time_space::{Timing, is_early};
 
-/// By how many ticks the common red of a signal starts before the moment from which its offset counts.
+/// The ticks of a timing in a second, and in a part.
+#[derive(Clone, Copy)]
+struct Scale {
+    grid: u128,
+    unit: u128,
+}
+
+/// Where the red of a direction starts under a pattern, in parts after the start of the common red: before that where the left turn
+/// against the direction lags.
+fn start_part(artery: &Artery, dir: Dir, pattern: u32, signal: u32) -> i32
+    requires first { 1 ≤ signal }
+    requires last { signal ≤ count artery.now }
+    ensures value { result ≡ start_part artery.now dir pattern signal }
+    ensures late { result ≤ℤ pos 0 }
+    ensures near { unsigned_abs result < 3600 }
+{
+    if is_early(dir, pattern) {
+        -(artery.left_against(dir, signal) as i32)
+    } else {
+        0
+    }
+}
+
+/// Where it ends.
+fn end_part(artery: &Artery, dir: Dir, pattern: u32, signal: u32) -> i32
+    requires first { 1 ≤ signal }
+    requires last { signal ≤ count artery.now }
+    ensures value { result ≡ end_part artery.now dir pattern signal }
+    ensures near { unsigned_abs result < 3600 }
+{
+    start_part(artery, dir, pattern, signal) + artery.red(dir, signal) as i32
+}
+
+/// Where the red ends that ends first.
+fn first_end(artery: &Artery, pattern: u32, signal: u32) -> i32
+    requires first { 1 ≤ signal }
+    requires last { signal ≤ count artery.now }
+    ensures value { result ≡ int_min (end_part artery.now Dir.Outbound pattern signal) (end_part artery.now Dir.Inbound pattern signal) }
+    ensures near { unsigned_abs result < 3600 }
+{
+    let outbound = end_part(artery, Dir::Outbound, pattern, signal);
+    let inbound = end_part(artery, Dir::Inbound, pattern, signal);
+    outbound.min(inbound)
+}
+
+/// Where the moment lies from which an offset counts, in parts after the start of the common red.
+fn moment_part(artery: &Artery, reference: Reference, pattern: u32, signal: u32) -> i32
+    requires first { 1 ≤ signal }
+    requires last { signal ≤ count artery.now }
+    ensures value { result ≡ moment_part artery.now reference pattern signal }
+    ensures near { unsigned_abs result < 3600 }
+{
+    match reference {
+        Reference::Red => 0,
+        Reference::GreenOut => end_part(artery, Dir::Outbound, pattern, signal),
+        Reference::GreenIn => end_part(artery, Dir::Inbound, pattern, signal),
+        Reference::FirstGreen => first_end(artery, pattern, signal),
+        Reference::EndOut => start_part(artery, Dir::Outbound, pattern, signal),
+        Reference::EndIn => start_part(artery, Dir::Inbound, pattern, signal),
+    }
+}
+
+/// How many ticks after the start of a signal's common red the moment comes from which its offset counts.
 fn lead(artery: &Artery, plan: &TypedPlan, unit: u128, signal: u32) -> i128
+    requires counts { HasCounts artery.now plan.now }
     requires unit { unit ≡ least_unit artery.now plan.now }
     requires small { unit < 2 ^ 80 }
     requires first { 1 ≤ signal }
     requires last { signal ≤ count artery.now }
-    ensures value { result ≡ pos (lead artery.now plan.now plan.now.reference signal) }
-    ensures most { unsigned_abs result < 2 ^ 92 }
+    ensures value { result ≡ lead artery.now plan.now signal }
+    ensures near { unsigned_abs result < 2 ^ 110 }
 {
-    match plan.reference() {
-        Reference::Red => 0,
-        Reference::Green => (u128::from(artery.common_red(signal)) * unit) as i128,
-    }
+    let pattern = plan.patterns()[signal as usize - 1];
+    let part = moment_part(artery, plan.reference(), pattern, signal);
+    product(i128::from(part), unit)
 }
 
 /// A moment of a signal and a part of a cycle after it.
 fn sum(one: i128, other: i128) -> i128
     requires one { unsigned_abs one < 2 ^ 110 }
-    requires other { unsigned_abs other < 2 ^ 92 }
+    requires other { unsigned_abs other < 2 ^ 110 }
     ensures value { result ≡ one +ℤ other }
     ensures near { unsigned_abs result < 2 ^ 111 }
 {
@@ -42,7 +104,7 @@ fn sum(one: i128, other: i128) -> i128
 /// And a part of a cycle before it.
 fn difference(one: i128, other: i128) -> i128
     requires one { unsigned_abs one < 2 ^ 111 }
-    requires other { unsigned_abs other < 2 ^ 92 }
+    requires other { unsigned_abs other < 2 ^ 110 }
     ensures value { result ≡ one -ℤ other }
     ensures near { unsigned_abs result < 2 ^ 112 }
 {
@@ -72,7 +134,7 @@ fn cycle(artery: &Artery, unit: u128) -> u128
 }
 
 /// Where the common red of a signal starts, that of signal 1 at 0.
-fn red_tick(artery: &Artery, plan: &TypedPlan, scale: GridScale, signal: u32) -> u128
+fn red_tick(artery: &Artery, plan: &TypedPlan, scale: Scale, signal: u32) -> u128
     requires counts { HasCounts artery.now plan.now }
     requires least { AreLeast artery.now plan.now scale.grid scale.unit }
     requires first { 1 ≤ signal }
@@ -88,12 +150,7 @@ fn red_tick(artery: &Artery, plan: &TypedPlan, scale: GridScale, signal: u32) ->
 }
 
 /// Where the common red of each signal starts.
-fn reds(
-    alloc: Global,
-    artery: &Artery,
-    plan: &TypedPlan,
-    scale: GridScale,
-) -> Result<Vec<u128>, Memory>
+fn reds(alloc: Global, artery: &Artery, plan: &TypedPlan, scale: Scale) -> Result<Vec<u128>, Memory>
     requires counts { HasCounts artery.now plan.now }
     requires least { AreLeast artery.now plan.now scale.grid scale.unit }
     ensures value { IfOk result (λ v. v.items ≡ numbered (count artery.now) 1 (red_tick artery.now plan.now)) }
@@ -126,33 +183,22 @@ fn runs(
     Ok(runs)
 }
 
-/// The least timing of a plan, with these firsts and bands.
-pub fn framed(
-    alloc: Global,
-    artery: &Artery,
-    plan: &TypedPlan,
-    grid: u128,
-    pairs: BothPairs,
-) -> Result<Timing, Memory>
+/// The least timing of a plan, its firsts and bands 0.
+pub fn frame(alloc: Global, artery: &Artery, plan: &TypedPlan, grid: u128) -> Result<Timing, Memory>
     requires counts { HasCounts artery.now plan.now }
     requires grid { grid ≡ least_grid artery.now plan.now }
     requires fine { too_fine artery.now plan.now ≡ None }
-    requires first_out { pairs.outbound.first < 2 ^ 80 }
-    requires band_out { pairs.outbound.band < 2 ^ 80 }
-    requires first_in { pairs.inbound.first < 2 ^ 80 }
-    requires band_in { pairs.inbound.band < 2 ^ 80 }
-    ensures { IfOk result (λ t. t ≡ with_pairs (pos pairs.outbound.first) pairs.outbound.band (pos pairs.inbound.first) pairs.inbound.band
-        (frame artery.now plan.now)) }
+    ensures { IfOk result (λ t. t ≡ frame artery.now plan.now) }
 {
     artery.known_valid();
     plan.known_within();
     let unit = size(artery, plan, grid, Times::Part, 1);
     let patterns = Vec::from_slice(alloc, plan.patterns())?;
-    let scale = GridScale { grid, unit };
+    let scale = Scale { grid, unit };
     let reds = reds(alloc, artery, plan, scale)?;
     let run_out = runs(alloc, artery, plan, grid, Dir::Outbound)?;
     let run_in = runs(alloc, artery, plan, grid, Dir::Inbound)?;
-    match timing_with(scale, patterns, reds, run_out, run_in, pairs) {
+    match Timing::new(grid, unit, patterns, reds, run_out, run_in, 0, 0, 0, 0) {
         Some(timing) => Ok(timing),
         None => unreachable!(),
     }

@@ -4,7 +4,7 @@ ghost use Rattle.std.specs.Prelude.{◌≡◌, pos, ◌*ℤ◌, ◌+◌, ◌*◌
 ghost use Rattle.rational_theory.specs.Gcd.{lcm};
 ghost use Rattle.progression.specs.Street.{count};
 ghost use Rattle.typed_plan.specs.Counts.{HasCounts};
-ghost use Rattle.typed_plan.specs.Grid.{time, how_many, common, common_all, commons, shared, ticks, least_grid, size, runs, sizes, too_fine};
+ghost use Rattle.typed_plan.specs.Grid.{told, time, how_many, common, common_all, commons, shared, ticks, least_grid, size, runs, sizes, too_fine};
 
 use crate::times::{Times, how_many, time};
 use artery_model::{Artery, Dir};
@@ -20,20 +20,21 @@ fn held(ticks: u128) -> Result<u128, u128>
     if ticks < LIMIT { Ok(ticks) } else { Err(ticks) }
 }
 
-/// The least common multiple with one more denominator.
+/// The greatest multiple that is told, `2^127 - 1`.
+const MOST_TOLD: u128 = 170_141_183_460_469_231_731_687_303_715_884_105_727;
+
+/// The least common multiple with one more denominator, as it is told.
 fn joined(ticks: u128, time: Frac) -> u128
-    requires small { ticks < 2 ^ 80 }
-    requires den { time.den ≤ 3600000 }
-    ensures { result ≡ lcm ticks time.den }
+    ensures { result ≡ told (lcm ticks time.den) }
 {
     match common_multiple(ticks, time.den().unsigned_abs()) {
         Some(joined) => joined,
-        None => unreachable!(),
+        None => MOST_TOLD,
     }
 }
 
 /// The least common multiple of a number and of the denominators of these times; or the first such multiple on the way that a timing
-/// can't hold.
+/// can't hold, as it is told.
 fn common(artery: &Artery, plan: &TypedPlan, times: Times, start: u128) -> Result<u128, u128>
     requires counts { HasCounts artery.now plan.now }
     requires above { 1 ≤ start }
@@ -51,10 +52,10 @@ fn common(artery: &Artery, plan: &TypedPlan, times: Times, start: u128) -> Resul
     Ok(ticks)
 }
 
-/// A product of a small number.
+/// A product that isn't large.
 #[tactic(auto, using(crate::proofs::Sizes::product_small))]
-fn product(number: i128, by: u128) -> i128
-    requires number { unsigned_abs number ≤ 540000000 }
+pub fn product(number: i128, by: u128) -> i128
+    requires small { unsigned_abs number * by < 2 ^ 110 }
     requires by { by < 2 ^ 80 }
     ensures value { result ≡ number *ℤ pos by }
     ensures near { unsigned_abs result < 2 ^ 110 }
@@ -63,9 +64,10 @@ fn product(number: i128, by: u128) -> i128
 }
 
 /// A time in ticks, on a grid of which it is a whole number of them.
+#[tactic(auto, using(crate::proofs::Sizes::ticks_small))]
 pub fn ticks(grid: u128, time: Frac) -> i128
     requires small { grid < 2 ^ 80 }
-    requires num { unsigned_abs time.num ≤ 540000000 }
+    requires num { unsigned_abs time.num ≤ 540000000 * time.den }
     ensures value { result ≡ ticks grid time }
     ensures near { unsigned_abs result < 2 ^ 110 }
 {
@@ -75,7 +77,7 @@ pub fn ticks(grid: u128, time: Frac) -> i128
 /// The same of a time that is at least 0.
 fn size_of(grid: u128, time: Frac) -> u128
     requires small { grid < 2 ^ 80 }
-    requires num { unsigned_abs time.num ≤ 540000000 }
+    requires num { unsigned_abs time.num ≤ 540000000 * time.den }
     ensures value { result ≡ unsigned_abs (ticks grid time) }
     ensures most { result < 2 ^ 110 }
 {

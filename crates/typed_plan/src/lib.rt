@@ -1,5 +1,6 @@
 //! The timing of a plan that people typed (`description_reader`'s `TypedPlan`): the one on the least grid that has the plan's cycle,
-//! offsets, patterns and times on the links exactly, with the widest bands of these offsets.
+//! offsets, patterns and times on the links exactly, with the widest bands of these offsets, cut to the artery's ratio rule and to `equal`
+//! where both directions have a line.
 //!
 //! `specs/Asked.antt` says what the timing has to be, `specs/Grid.antt` which numbers it has, and `specs/Ends.antt` why there is
 //! none. Start with `timing_of`.
@@ -14,7 +15,7 @@ mod seconds;
 mod times;
 mod timing;
 
-pub use timing::{TypedFault, timing_of};
+pub use timing::{Measured, TypedFault, timing_of};
 
 /// A plan has at most one timing on an artery.
 pub fn law_one_timing()

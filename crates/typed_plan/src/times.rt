@@ -1,11 +1,11 @@
 //! The times of a plan that have to be whole ticks.
 
-ghost use Rattle.std.specs.Prelude.{◌≡◌, ◌-◌, ◌<◌, ◌≤◌, unsigned_abs};
+ghost use Rattle.std.specs.Prelude.{◌≡◌, ◌-◌, ◌*◌, ◌<◌, ◌≤◌, unsigned_abs};
 ghost use Rattle.progression.specs.Street.{count};
 ghost use Rattle.typed_plan.specs.{Asked.{after, travel}, Counts.{HasCounts}, Grid.{time, how_many}};
 
-use crate::seconds::{later_by, over_whole};
-use artery_model::{Artery, Dir, seconds};
+use crate::seconds::{at_speed, later_by, over_whole};
+use artery_model::{Artery, Dir};
 use description_reader::{Measure, TypedPlan};
 use narrow_fraction::Frac;
 
@@ -26,8 +26,7 @@ fn after(artery: &Artery, plan: &TypedPlan, signal: u32) -> Frac
     requires first { 1 ≤ signal }
     requires last { signal ≤ count artery.now }
     ensures value { result ≡ after plan.now signal }
-    ensures num { unsigned_abs result.num ≤ 540000000 }
-    ensures den { result.den ≤ 3600000 }
+    ensures num { unsigned_abs result.num ≤ 540000000 * result.den }
 {
     let offsets = plan.offsets();
     later_by(offsets[signal as usize - 1], offsets[0])
@@ -39,12 +38,11 @@ fn travel(artery: &Artery, plan: &TypedPlan, dir: Dir, link: u32) -> Frac
     requires first { 1 ≤ link }
     requires last { link < count artery.now }
     ensures value { result ≡ travel artery.now plan.now dir link }
-    ensures num { unsigned_abs result.num ≤ 540000000 }
-    ensures den { result.den ≤ 3600000 }
+    ensures num { unsigned_abs result.num ≤ 540000000 * result.den }
 {
     let measured = plan.measured(dir)[link as usize - 1];
     match plan.measure(dir) {
-        Measure::Speed => seconds(artery.head().units, artery.distance(dir, link), measured),
+        Measure::Speed => at_speed(artery.head().units, artery.distance(dir, link), measured),
         Measure::Travel => measured,
     }
 }
@@ -67,8 +65,7 @@ pub fn time(artery: &Artery, plan: &TypedPlan, times: Times, number: u32) -> Fra
     requires first { 1 ≤ number }
     requires last { number ≤ how_many artery.now times }
     ensures value { result ≡ time artery.now plan.now times number }
-    ensures num { unsigned_abs result.num ≤ 540000000 }
-    ensures den { result.den ≤ 3600000 }
+    ensures num { unsigned_abs result.num ≤ 540000000 * result.den }
 {
     match times {
         Times::Part => over_whole(plan.cycle(), artery.parts()),

@@ -1,26 +1,27 @@
 //! From a plan to its timing.
 
-ghost use Rattle.std.specs.Prelude.{◌≡◌, ◌⊎◌, ◌<◌, ◌^◌, length, IfOk, IfErr};
-ghost use Rattle.progression.specs.{Street.{count}, TimingRecord.{cycle}};
-ghost use Rattle.band_measure.specs.Widest.{IsWidest, NoneRuns};
-ghost use Rattle.typed_plan.specs.{Counts.{HasCounts, count_fault}, Grid.{least_grid, too_fine}, Ends.{IsTimingOf, Refuses}};
+ghost use Rattle.std.specs.Prelude.{◌≡◌, ◌<◌, ◌≤◌, ◌^◌, None, IfOk, IfErr};
+ghost use Rattle.progression.specs.TimingRecord.{cycle};
+ghost use Rattle.typed_plan.specs.{Counts.{HasCounts, count_fault}, Grid.{least_grid, too_fine}};
+ghost use Rattle.typed_plan.specs.Ends.{AreCut, ArePut, pair_or_none, paired, IsBelow, IsTimingOf, Refuses};
 
 use crate::counts::check_counts;
-use crate::frame::framed;
+use crate::frame::frame;
 use crate::grid::fitting_grid;
 use artery_model::{Artery, Dir, Flaw, Refusal};
-use band_measure::{BothPairs, Widest, widest};
+use band_measure::{Bands, BothPairs, Widest, cut, widest};
 use description_reader::TypedPlan;
 use narrow_fraction::Memory;
 use std::alloc::Global;
-use time_space::Timing;
+use time_space::{Timing, cycle};
 
 /// Why a plan has no timing on an artery.
 #[derive(Drop)]
 pub enum TypedFault {
     /// The plan has more or fewer numbers at this place than the artery has signals or links.
     Refused(Refusal),
-    /// The first number of ticks on the way to the least grid, and then of the timing's grid, runs and cycle, that is `2^80` or more.
+    /// The first number of ticks on the way to the least grid, and then of the timing's grid, runs and cycle, that is `2^80` or more; one on
+    /// the way that is more than `2^127 - 1` is told as that.
     TooFine { ticks: u128 },
     Memory,
 }
@@ -35,52 +36,130 @@ impl From<Memory> for TypedFault {
     }
 }
 
+/// The timing of a plan, and the pairs of its bands.
+#[derive(Drop)]
+pub struct Measured {
+    /// The timing has these pairs, and a first and a band of 0 where there is none.
+    pub timing: Timing,
+    /// The outbound pair, and None where no line crosses every signal in green.
+    pub outbound: Option<Widest>,
+    /// The inbound one.
+    pub inbound: Option<Widest>,
+}
+
+/// The pair of each direction in which a line runs.
+#[derive(Clone, Copy)]
+struct Found {
+    outbound: Option<Widest>,
+    inbound: Option<Widest>,
+}
+
 /// No line, for a direction in which none runs.
 const NO_LINE: Widest = Widest { first: 0, band: 0 };
 
-/// The widest pair of a direction, both numbers 0 where no line runs.
-fn widest_or_none(artery: &Artery, timing: &Timing, dir: Dir) -> Widest
-    requires shape { length timing.now.patterns ≡ count artery.now }
-    requires cycle { cycle artery.now timing.now < 2 ^ 80 }
-    ensures widest { IsWidest artery.now timing.now dir result.first result.band
-        ⊎ (NoneRuns artery.now timing.now dir × (result.first ≡ 0) × (result.band ≡ 0)) }
-    ensures first { result.first < 2 ^ 80 }
-    ensures band { result.band < 2 ^ 80 }
+fn pair_or_none(found: Option<Widest>) -> Widest
+    ensures value { result ≡ pair_or_none found }
 {
-    match widest(artery, timing, dir) {
-        Some(pair) => pair,
-        None => NO_LINE,
+    found.unwrap_or(NO_LINE)
+}
+
+/// The pairs with their bands cut.
+fn cut_pairs(artery: &Artery, there: Widest, back: Widest) -> BothPairs
+    requires there { there.band < 2 ^ 92 }
+    requires back { back.band < 2 ^ 92 }
+    ensures cut { AreCut artery.now there back result.outbound result.inbound }
+    ensures there { result.outbound.band ≤ there.band }
+    ensures back { result.inbound.band ≤ back.band }
+{
+    let bands = cut(
+        artery,
+        Bands {
+            outbound: there.band,
+            inbound: back.band,
+        },
+    );
+    BothPairs {
+        outbound: Widest {
+            first: there.first,
+            band: bands.outbound,
+        },
+        inbound: Widest {
+            first: back.first,
+            band: bands.inbound,
+        },
     }
 }
 
-/// The least timing of a plan that fits, with its widest bands.
-fn timed(alloc: Global, artery: &Artery, plan: &TypedPlan, grid: u128) -> Result<Timing, Memory>
+/// What is put of the widest pairs.
+fn put_pairs(artery: &Artery, cycle: u128, found: Found) -> Found
+    requires cycle { cycle < 2 ^ 80 }
+    requires outbound { IsBelow cycle found.outbound }
+    requires inbound { IsBelow cycle found.inbound }
+    ensures put { ArePut artery.now found.outbound found.inbound result.outbound result.inbound }
+    ensures outbound { IsBelow cycle result.outbound }
+    ensures inbound { IsBelow cycle result.inbound }
+{
+    match (found.outbound, found.inbound) {
+        (Some(there), Some(back)) => {
+            let BothPairs { outbound, inbound } = cut_pairs(artery, there, back);
+            Found {
+                outbound: Some(outbound),
+                inbound: Some(inbound),
+            }
+        }
+        _ => found,
+    }
+}
+
+/// The timing with the pairs that are put of the widest ones.
+fn with_pairs(artery: &Artery, frame: Timing, found: Found) -> Measured
+    requires cycle { cycle artery.now frame < 2 ^ 80 }
+    requires outbound { IsBelow (cycle artery.now frame) found.outbound }
+    requires inbound { IsBelow (cycle artery.now frame) found.inbound }
+    ensures put { ArePut artery.now found.outbound found.inbound result.outbound result.inbound }
+    ensures timing { result.timing ≡ paired frame (pair_or_none result.outbound) (pair_or_none result.inbound) }
+    ensures outbound { IsBelow (cycle artery.now frame) result.outbound }
+    ensures inbound { IsBelow (cycle artery.now frame) result.inbound }
+{
+    let put = put_pairs(artery, cycle(artery, &frame), found);
+    let there = pair_or_none(put.outbound);
+    let back = pair_or_none(put.inbound);
+    Measured {
+        timing: frame.with_bands(there.first, there.band, back.first, back.band),
+        outbound: put.outbound,
+        inbound: put.inbound,
+    }
+}
+
+/// The least timing of a plan that fits, with its bands.
+fn timed(alloc: Global, artery: &Artery, plan: &TypedPlan, grid: u128) -> Result<Measured, Memory>
     requires counts { HasCounts artery.now plan.now }
     requires fault { count_fault artery.now plan.now ≡ None }
     requires grid { grid ≡ least_grid artery.now plan.now }
     requires fine { too_fine artery.now plan.now ≡ None }
-    ensures { IfOk result (λ t. IsTimingOf artery.now plan.now t) }
+    ensures timing { IfOk result (λ m. IsTimingOf artery.now plan.now m) }
+    ensures outbound { IfOk result (λ m. IsBelow (cycle artery.now m.timing) m.outbound) }
+    ensures inbound { IfOk result (λ m. IsBelow (cycle artery.now m.timing) m.inbound) }
 {
     artery.known_valid();
     plan.known_within();
-    let lines = BothPairs {
-        outbound: NO_LINE,
-        inbound: NO_LINE,
-    };
-    let frame = framed(alloc, artery, plan, grid, lines)?;
-    let outbound = widest_or_none(artery, &frame, Dir::Outbound);
-    let inbound = widest_or_none(artery, &frame, Dir::Inbound);
-    framed(alloc, artery, plan, grid, BothPairs { outbound, inbound })
+    let frame = frame(alloc, artery, plan, grid)?;
+    let outbound = widest(artery, &frame, Dir::Outbound);
+    let inbound = widest(artery, &frame, Dir::Inbound);
+    Ok(with_pairs(artery, frame, Found { outbound, inbound }))
 }
 
 /// The timing of a plan on an artery.
 ///
 /// It has exactly the plan's cycle, patterns and times on the links, and its offsets but for whole cycles, on the least grid that has
-/// them; the common red of signal 1 starts at tick 0. Its firsts and bands are the widest on these offsets, and 0 in a direction in
-/// which no line runs, whichever rules the timing breaks. The first fault is told: `Refused` for counts in the order of the
-/// plan's keys, then `TooFine`; `Memory` may come in place of any answer.
-pub fn timing_of(alloc: Global, artery: &Artery, plan: &TypedPlan) -> Result<Timing, TypedFault>
-    ensures timing { IfOk result (λ t. IsTimingOf artery.now plan.now t) }
+/// them; the common red of signal 1 starts at tick 0. Its firsts and bands are the widest on these offsets, whichever rules the timing
+/// breaks. Where both directions have a line the bands are cut to the artery's ratio rule and to `equal`; where one has none, its first
+/// and band are 0 and the other's stand as they were measured. The first fault is told: `Refused` for counts in the order of the plan's
+/// keys, then `TooFine`; `Memory` may come in place of any answer.
+pub fn timing_of(alloc: Global, artery: &Artery, plan: &TypedPlan) -> Result<Measured, TypedFault>
+    ensures timing { IfOk result (λ m. IsTimingOf artery.now plan.now m) }
+    ensures outbound { IfOk result (λ m. IsBelow (cycle artery.now m.timing) m.outbound) }
+    ensures inbound { IfOk result (λ m. IsBelow (cycle artery.now m.timing) m.inbound) }
     ensures faults { IfErr result (λ f. Refuses artery.now plan.now f) }
 {
     artery.known_valid();

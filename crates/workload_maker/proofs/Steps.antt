@@ -55,6 +55,7 @@ links_at seed n x (j ∷ js) e =
     ap (λ k. link_with (200 + 10 * k) ∷ map link_with (map (distance_drawn x) js)) d ∙ ap (λ ls. made_link seed n j ∷ ls) (links_at seed n x js e)
 
 -- one more item of a list that is made from the numbers from 1 on
-pub one_more : {X : Type 0} (f : ℕ → X) (i : ℕ) (before after : List X) (x : X) → after ≡ before ++ x ∷ [] → before ≡ map f (range_with_len 1 i) → x ≡ f (i + 1) → after ≡ map f (range_with_len 1 (i + 1))
+pub one_more : {X : Type 0} (f : ℕ → X) (i : ℕ) (before after : List X) (x : X) → after ≡ before ++ x ∷ [] → before ≡ map f (range_with_len 1 i)
+    → x ≡ f (i + 1) → after ≡ map f (range_with_len 1 (i + 1))
 one_more f i before after x e b v =
     e ∙ ap (λ xs. xs ++ x ∷ []) b ∙ ap (λ y. map f (range_with_len 1 i) ++ y ∷ []) v ∙ sym (map-range_with_len_more f 1 i (i + 1) (omega arith))

@@ -12,12 +12,12 @@ use loop_rows::column_count;
 use named_row::{Leaf, Place, Row};
 use narrow_fraction::Frac;
 use plan_text::{CertNode, Certificate, read_certificate};
-use sample_streets::{SampleHead, plain_head};
 use std::alloc::{AllocError, Global};
 use std::rt::HostRuntime;
 use std::test::Fail;
 use test_bed::{
-    HALF_BAND, HIGH_LEAF, LOW_LEAF, Reader, Record, SPLIT, all_told, two_signals, with_least,
+    HALF_BAND, HIGH_LEAF, LOW_LEAF, Reader, Record, SPLIT, SampleHead, all_told, plain_head,
+    two_signals, with_least,
 };
 
 /// The reds of two signals in parts, how far they are apart, how many tenths of the cycle each band has to be wide, the lines of a

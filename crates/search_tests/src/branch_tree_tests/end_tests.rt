@@ -44,8 +44,8 @@ fn leaves_leaf(alloc: Global, red: u32, limit: u64, rows: [(u8, u32); 2]) -> Res
     requires { 0 < limit }
 {
     let artery = artery(alloc, red, 250)?;
-    let found = searched(alloc, &artery, limit)?;
-    Ok(is_leaf_of(&found, rows))
+    let searched = searched(alloc, &artery, limit)?;
+    Ok(is_leaf_of(&searched.found, rows))
 }
 
 /// The block sum of the root's vertex is 1/2, so that a search of 4 units leaves it waiting with its own leaf. Long reds are refuted.
@@ -99,7 +99,7 @@ fn is_split_at(found: &Found, wanted: &[Number]) -> bool {
 fn vertex_of_the_shared_green(rt: HostRuntime) -> Result<(), Fail> {
     let alloc = rt.alloc();
     let artery = artery(alloc, 50, 250)?;
-    let found = searched(alloc, &artery, 15)?;
-    assert!(rt; is_split_at(&found, &VERTEX));
+    let searched = searched(alloc, &artery, 15)?;
+    assert!(rt; is_split_at(&searched.found, &VERTEX));
     Ok(())
 }

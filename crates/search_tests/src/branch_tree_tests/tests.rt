@@ -2,43 +2,38 @@
 //! each way. At 500 metres both bands are the whole green. At 250 metres the block sum is 0 or 1, and they share it. The root
 //! of the shorter artery takes 4 units. Its parts start from the basis where it ended, and the low one takes 5 and the high one 6.
 
-ghost use Rattle.std.specs.Prelude.{◌<◌, IfOk};
+ghost use Rattle.std.specs.Prelude.{◌<◌};
 ghost use Rattle.branch_tree.specs.Told.{IsCertifiable};
 
 use super::end_tests::{Number, WAITS, has_rows};
 use artery_model::Artery;
-use branch_tree::{Found, Stop, TreeNode, Verdict, certificate_of, search};
+use branch_tree::{
+    Found, Searched, Stop, TreeNode, Verdict, certificate_of, search, search_and_check,
+};
 use certificate_checker::check;
 use narrow_fraction::Frac;
-use sample_streets::{SampleHead, plain_head};
 use std::alloc::Global;
 use std::rt::HostRuntime;
 use std::test::Fail;
-use test_bed::{fraction_or_zero, two_signals, with_least};
+use test_bed::{SampleHead, fraction_or_zero, plain_head, two_signals, with_least};
 use time_space::value;
 
 pub(crate) fn artery(alloc: Global, red: u32, distance: u32) -> Result<Artery, Fail> {
     two_signals(alloc, plain_head(), red, distance)
 }
 
-pub(crate) fn searched(alloc: Global, artery: &Artery, limit: u64) -> Result<Found, Fail>
+pub(crate) fn searched(alloc: Global, artery: &Artery, limit: u64) -> Result<Searched, Fail>
     requires { 0 < limit }
-    ensures { IfOk result (λ found. IsCertifiable found) }
 {
-    match search(alloc, artery, Some(limit)) {
-        Ok(found) => Ok(found),
+    match search_and_check(alloc, artery, Some(limit)) {
+        Ok(searched) => Ok(searched),
         Err(_) => Err("no memory".into()),
     }
 }
 
 /// Whether the certificate of an answer is accepted.
-pub(crate) fn is_accepted(alloc: Global, artery: &Artery, found: &Found) -> bool
-    requires { IsCertifiable found.now }
-{
-    match certificate_of(alloc, artery, found) {
-        Ok(certificate) => check(alloc, artery, &certificate).is_ok(),
-        Err(_) => false,
-    }
+pub(crate) fn is_accepted(alloc: Global, artery: &Artery, searched: &Searched) -> bool {
+    check(alloc, artery, &searched.certificate).is_ok()
 }
 
 fn is_best(found: &Found) -> bool {
@@ -74,22 +69,21 @@ fn band(artery: &Artery, found: &Found) -> Frac {
 }
 
 /// Whether a search ended with this bound and a timing of this value, or with none and -1; its certificate is accepted.
-fn ends_with(alloc: Global, artery: &Artery, found: &Found, bound: Frac, kept: Frac) -> bool
-    requires { IsCertifiable found.now }
-{
-    found.bound == bound && band(artery, found) == kept && is_accepted(alloc, artery, found)
+fn ends_with(alloc: Global, artery: &Artery, searched: &Searched, bound: Frac, kept: Frac) -> bool {
+    let found = &searched.found;
+    found.bound == bound && band(artery, found) == kept && is_accepted(alloc, artery, searched)
 }
 
 /// Whether a search finds a best timing of this value, with a certificate that is accepted.
 fn finds_best(alloc: Global, artery: &Artery, best: Frac) -> Result<bool, Fail> {
-    let found = searched(alloc, artery, 1000)?;
-    Ok(is_best(&found) && ends_with(alloc, artery, &found, best, best))
+    let searched = searched(alloc, artery, 1000)?;
+    Ok(is_best(&searched.found) && ends_with(alloc, artery, &searched, best, best))
 }
 
 /// Whether a search finds that there is no timing, with a certificate that is accepted.
 fn finds_none(alloc: Global, artery: &Artery) -> Result<bool, Fail> {
-    let found = searched(alloc, artery, 1000)?;
-    Ok(has_no_timing(&found) && is_accepted(alloc, artery, &found))
+    let searched = searched(alloc, artery, 1000)?;
+    Ok(has_no_timing(&searched.found) && is_accepted(alloc, artery, &searched))
 }
 
 /// Whether a search within this limit spends all of it and stops with this bound and a timing of this value, or with none and -1; its
@@ -103,8 +97,8 @@ fn stops_with(
 ) -> Result<bool, Fail>
     requires { 0 < limit }
 {
-    let found = searched(alloc, artery, limit)?;
-    Ok(units(&found) == limit && ends_with(alloc, artery, &found, bound, kept))
+    let searched = searched(alloc, artery, limit)?;
+    Ok(units(&searched.found) == limit && ends_with(alloc, artery, &searched, bound, kept))
 }
 
 #[test]
@@ -117,10 +111,11 @@ fn the_whole_green_is_best(rt: HostRuntime) -> Result<(), Fail> {
 
 /// Whether a search of 15 units finds a best timing of this value in three nodes, with a certificate that is accepted.
 fn shares_the_green(alloc: Global, artery: &Artery, best: Frac) -> Result<bool, Fail> {
-    let found = searched(alloc, artery, 15)?;
+    let searched = searched(alloc, artery, 15)?;
+    let found = &searched.found;
     Ok(
-        is_best(&found)
-            && ends_with(alloc, artery, &found, best, best)
+        is_best(found)
+            && ends_with(alloc, artery, &searched, best, best)
             && found.spent == 15
             && found.nodes.len() == 3,
     )
@@ -211,8 +206,8 @@ fn is_root_alone(alloc: Global, limit: u64) -> Result<bool, Fail>
     requires { 0 < limit }
 {
     let artery = artery(alloc, 50, 250)?;
-    let found = searched(alloc, &artery, limit)?;
-    match found.nodes.as_slice() {
+    let searched = searched(alloc, &artery, limit)?;
+    match searched.found.nodes.as_slice() {
         [node] => Ok(is_first_waits(node)),
         _ => Ok(false),
     }
@@ -236,7 +231,32 @@ fn an_undone_split_leaves_the_root(rt: HostRuntime) -> Result<(), Fail> {
 fn long_reds_leave_no_timing(rt: HostRuntime) -> Result<(), Fail> {
     let alloc = rt.alloc();
     let artery = artery(alloc, 80, 250)?;
-    let found = searched(alloc, &artery, 5)?;
-    assert!(rt; has_no_timing(&found));
+    let searched = searched(alloc, &artery, 5)?;
+    assert!(rt; has_no_timing(&searched.found));
+    Ok(())
+}
+
+/// Whether the certificate of an answer, made by itself, is accepted.
+fn is_certified(alloc: Global, artery: &Artery, found: &Found) -> bool
+    requires { IsCertifiable found.now }
+{
+    match certificate_of(alloc, artery, found) {
+        Ok(certificate) => check(alloc, artery, &certificate).is_ok(),
+        Err(_) => false,
+    }
+}
+
+/// Whether a search of 15 units, with nothing checked, finds a best timing, whose certificate is accepted.
+fn is_found_alone(alloc: Global, artery: &Artery) -> bool {
+    match search(alloc, artery, Some(15)) {
+        Ok(found) => is_best(&found) && is_certified(alloc, artery, &found),
+        Err(_) => false,
+    }
+}
+
+#[test]
+fn a_search_alone_and_its_certificate(rt: HostRuntime) -> Result<(), Fail> {
+    let artery = artery(rt.alloc(), 50, 250)?;
+    assert!(rt; is_found_alone(rt.alloc(), &artery));
     Ok(())
 }

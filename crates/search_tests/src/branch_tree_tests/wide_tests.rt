@@ -12,11 +12,12 @@ use artery_model::{Artery, Pair};
 use branch_tree::{Found, Site, SitePart, Stop, Verdict};
 use narrow_fraction::Frac;
 use offset_recovery::WideTiming;
-use sample_streets::{SampleHead, SampleLink, plain_head, plain_link, plain_signal, sample_street};
 use std::alloc::Global;
 use std::rt::HostRuntime;
 use std::test::Fail;
-use test_bed::fraction_or_zero;
+use test_bed::{
+    SampleHead, SampleLink, fraction_or_zero, plain_head, plain_link, plain_signal, sample_street,
+};
 
 /// The speeds in thousandths of a kilometre an hour, and the cycle in thousandths of a second.
 const PRIMES: [i128; 5] = [99991, 99989, 99971, 99961, 99929];
@@ -138,13 +139,14 @@ fn has_own_leaf(found: &Found) -> bool {
 
 /// Whether a search of the street keeps the root's own leaf and bound, with a certificate that is accepted.
 fn keeps_own_leaf(alloc: Global, artery: &Artery, bound: Frac) -> Result<bool, Fail> {
-    let found = searched(alloc, artery, 1000)?;
+    let searched = searched(alloc, artery, 1000)?;
+    let found = &searched.found;
     Ok(
-        is_stopped_by_primes(&found)
+        is_stopped_by_primes(found)
             && found.bound == bound
             && found.timing.is_none()
-            && has_own_leaf(&found)
-            && is_accepted(alloc, artery, &found),
+            && has_own_leaf(found)
+            && is_accepted(alloc, artery, &searched),
     )
 }
 

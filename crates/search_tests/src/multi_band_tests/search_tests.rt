@@ -1,19 +1,21 @@
 //! Searches of links: 100 parts, a cycle of 100 seconds, 36 kilometres an hour, one or two links of the same length each way. The
 //! certificates and the units of work are those of a second program, written apart from this one.
 
-ghost use Rattle.std.specs.Prelude.{◌<◌, IfOk};
+ghost use Rattle.std.specs.Prelude.{◌<◌};
 ghost use Rattle.multi_band.specs.LinkTold.{AreLinksCertifiable};
 
 use artery_model::Artery;
 use branch_tree::Verdict;
-use link_proof::{link_check, write_links};
-use multi_band::{LinkFound, link_certificate, link_search, search_links_and_check};
+use link_proof::{LinkCertificate, link_check, write_links};
+use multi_band::{LinkFound, SearchedLinks, link_certificate, link_search, search_links_and_check};
 use narrow_fraction::Frac;
-use sample_streets::{plain_head, plain_link, plain_signal, sample_street};
 use std::alloc::Global;
 use std::rt::HostRuntime;
 use std::test::Fail;
-use test_bed::{Reader, Record, all_told, fraction, two_signals, with_ratio};
+use test_bed::{
+    Reader, Record, all_told, fraction, plain_head, plain_link, plain_signal, sample_street,
+    two_signals, with_ratio,
+};
 
 /// Two signals with this red and so far apart, how much the inbound bands count, and a limit of work.
 static STREET: &str = "red 50
@@ -59,27 +61,21 @@ fn three(alloc: Global) -> Result<Artery, Fail> {
     }
 }
 
-fn searched(alloc: Global, artery: &Artery, limit: u64) -> Result<LinkFound, Fail>
+fn searched(alloc: Global, artery: &Artery, limit: u64) -> Result<SearchedLinks, Fail>
     requires { 0 < limit }
-    ensures { IfOk result (λ found. AreLinksCertifiable found) }
 {
-    match link_search(alloc, artery, Some(limit)) {
-        Ok(found) => Ok(found),
+    match search_links_and_check(alloc, artery, Some(limit)) {
+        Ok(searched) => Ok(searched),
         Err(_) => Err("no memory".into()),
     }
 }
 
-/// The text of the certificate of an answer, which is accepted.
-fn text(alloc: Global, artery: &Artery, found: &LinkFound) -> Result<Vec<u8>, Fail>
-    requires { AreLinksCertifiable found.now }
-{
-    let Ok(certificate) = link_certificate(alloc, artery, found) else {
-        return Err("no memory".into());
-    };
-    if link_check(alloc, artery, &certificate).is_err() {
+/// The text of a certificate, which is accepted.
+fn text(alloc: Global, artery: &Artery, certificate: &LinkCertificate) -> Result<Vec<u8>, Fail> {
+    if link_check(alloc, artery, certificate).is_err() {
         return Err("refused".into());
     }
-    match write_links(alloc, &certificate) {
+    match write_links(alloc, certificate) {
         Ok(text) => Ok(text),
         Err(_) => Err("no memory".into()),
     }
@@ -89,11 +85,11 @@ fn text(alloc: Global, artery: &Artery, found: &LinkFound) -> Result<Vec<u8>, Fa
 fn found_text(alloc: Global, artery: &Artery, limit: u64) -> Result<String, Fail>
     requires { 0 < limit }
 {
-    let found = searched(alloc, artery, limit)?;
-    if found.spent != limit {
+    let searched = searched(alloc, artery, limit)?;
+    if searched.found.spent != limit {
         return Err("another limit".into());
     }
-    let text = text(alloc, artery, &found)?;
+    let text = text(alloc, artery, &searched.certificate)?;
     Ok(String::from_utf8(text)?)
 }
 
@@ -128,16 +124,32 @@ fn each_link_has_its_own_band(rt: HostRuntime) -> Result<(), Fail> {
     Ok(())
 }
 
-#[test]
-fn an_answer_is_checked(rt: HostRuntime) -> Result<(), Fail> {
-    let alloc = rt.alloc();
-    let artery = two_signals(alloc, plain_head(), 50, 500)?;
-    match search_links_and_check(alloc, &artery, None) {
-        Ok(searched) => {
-            assert!(rt; matches!(&searched.found.verdict, Verdict::Best));
-            assert!(rt; searched.found.bound == Frac::whole(1));
-        }
-        Err(_) => return Err("no memory".into()),
+/// Whether the certificate of an answer, made by itself, is accepted.
+fn is_certified(alloc: Global, artery: &Artery, found: &LinkFound) -> bool
+    requires { AreLinksCertifiable found.now }
+{
+    match link_certificate(alloc, artery, found) {
+        Ok(certificate) => link_check(alloc, artery, &certificate).is_ok(),
+        Err(_) => false,
     }
+}
+
+/// Whether a search without a limit, with nothing checked, finds a best link timing that is worth the whole cycle, whose certificate is
+/// accepted.
+fn is_found_alone(alloc: Global, artery: &Artery) -> bool {
+    match link_search(alloc, artery, None) {
+        Ok(found) => {
+            matches!(&found.verdict, Verdict::Best)
+                && found.bound == Frac::whole(1)
+                && is_certified(alloc, artery, &found)
+        }
+        Err(_) => false,
+    }
+}
+
+#[test]
+fn a_search_alone_and_its_certificate(rt: HostRuntime) -> Result<(), Fail> {
+    let artery = two_signals(rt.alloc(), plain_head(), 50, 500)?;
+    assert!(rt; is_found_alone(rt.alloc(), &artery));
     Ok(())
 }

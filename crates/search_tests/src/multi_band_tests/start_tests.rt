@@ -3,11 +3,11 @@
 //! the halves outbound and inbound.
 
 use artery_model::Artery;
+use branch_tree::{Room, Sought};
 use fraction_tableau::Tableau;
-use multi_band::{start_link_leaf, start_links};
+use multi_band::{ArteryLinks, start_link_leaf};
 use named_row::{Leaf, RowId, Weight};
 use narrow_fraction::Frac;
-use search_box::SearchBox;
 use std::alloc::Global;
 use std::rt::HostRuntime;
 use std::test::Fail;
@@ -18,11 +18,21 @@ fn artery(alloc: Global, ratio: Frac) -> Result<Artery, Fail> {
     two_signals(alloc, with_ratio(ratio), 50, 500)
 }
 
+/// The tableau that a search of these links begins from.
+fn begun(alloc: Global, links: &ArteryLinks) -> Result<Tableau, Fail> {
+    let area = links.root(alloc)?;
+    let Room {
+        mut tableau,
+        mut spare,
+    } = links.make_room(alloc)?;
+    links.begin_root(&mut tableau, &mut spare, &area);
+    Ok(tableau)
+}
+
 /// The opening tableau of the street with this ratio.
 fn opened(alloc: Global, ratio: Frac) -> Result<Tableau, Fail> {
     let artery = artery(alloc, ratio)?;
-    let area = SearchBox::root(alloc, &artery)?;
-    Ok(start_links(alloc, &artery, &area)?)
+    begun(alloc, &ArteryLinks { artery: &artery })
 }
 
 /// A cell, or a bound, where there is one; the goal row has the number after the last row.

@@ -292,7 +292,7 @@ fn three_signals_with_left_turns_in_feet(rt: HostRuntime) -> Result<(), Fail> {
 }
 
 fn has_second_version(artery: &Artery) -> bool {
-    artery.version() == 2
+    artery.head().version == 2
         && artery.least_band(Dir::Outbound) == Frac::whole(1)
         && artery.least_band(Dir::Inbound) == Frac::whole(0)
         && artery.equal()

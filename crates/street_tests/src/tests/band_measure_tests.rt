@@ -4,10 +4,9 @@ use super::given;
 use artery_model::Artery;
 use band_measure::{Widest, base_holds, widest};
 use progression::Dir;
-use sample_streets::plain_head;
 use std::alloc::Global;
 use std::test::Fail;
-use test_bed::{Record, two_signals, with_changes};
+use test_bed::{Record, plain_head, two_signals, with_changes};
 use time_space::Timing;
 
 /// Its firsts and bands are never right.

@@ -4,10 +4,11 @@
 use super::given;
 use artery_model::Artery;
 use diagram_draw::draw;
-use sample_streets::{SampleHead, SampleSignal, plain_head, plain_signal, range};
 use std::alloc::Global;
 use std::test::Fail;
-use test_bed::{Record, paced_link, with_changes};
+use test_bed::{
+    Record, SampleHead, SampleSignal, paced_link, plain_head, plain_signal, range, with_changes,
+};
 use time_space::Timing;
 
 /// Its lines. One that stands there several times is written once, with how often and with how much greater each time the numbers

@@ -1,10 +1,9 @@
 //! What the streets and timings of these tests are made of, through functions with nothing said of them.
 
 use artery_model::{Artery, Pair};
-use sample_streets::{SampleHead, SampleLink, SampleSignal, sample_street};
 use std::alloc::Global;
 use std::test::Fail;
-use test_bed::Record;
+use test_bed::{Record, SampleHead, SampleLink, SampleSignal, sample_street};
 use time_space::Timing;
 
 /// A name, and the place of a number behind it, counted from 0.

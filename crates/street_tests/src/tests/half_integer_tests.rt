@@ -4,10 +4,11 @@ use super::given::{four, street, timing, two};
 use artery_model::Artery;
 use half_integer::{HalfFault, half, half_of};
 use progression::Dir;
-use sample_streets::{SampleLink, SampleSignal, plain_head, plain_link, plain_signal};
 use std::alloc::{AllocError, Global};
 use std::test::Fail;
-use test_bed::{Reader, Record, all_told};
+use test_bed::{
+    Reader, Record, SampleLink, SampleSignal, all_told, plain_head, plain_link, plain_signal,
+};
 use time_space::Timing;
 
 /// A street and its timing: how far the signals are apart outbound and inbound, and both reds in parts. The left turns, the last of the patterns

@@ -6,12 +6,12 @@ ghost use Rattle.search_box.specs.{Seen.{span_of}, Places.{AreRanks}};
 
 use super::given;
 use artery_model::Artery;
-use sample_streets::{SampleHead, SampleSignal, plain_head, plain_link, plain_signal, range};
 use search_box::{
     At, SearchBox, Span, law_shifts_are_ranked, law_valid_street, root_span, shift_at, shift_count,
 };
 use std::alloc::Global;
 use std::test::Fail;
+use test_bed::{SampleHead, SampleSignal, plain_head, plain_link, plain_signal, range};
 
 /// What differs between the arteries. The second numbers of a pair, the lefts, the patterns and the clearance are those
 /// of signal B.

@@ -4,11 +4,13 @@ use super::given::{four, pair, street, timing};
 use artery_model::{Artery, Pair};
 use narrow_fraction::{Frac, Op, Wide};
 use progression::Dir;
-use sample_streets::{SampleHead, SampleLink, plain_head, plain_link, plain_signal};
 use second_plan::{Plan, PlanEnd, PlanFault, plan};
 use std::alloc::{AllocError, Global};
 use std::test::Fail;
-use test_bed::{Reader, Record, all_told, fraction, with_changes};
+use test_bed::{
+    Reader, Record, SampleHead, SampleLink, all_told, fraction, plain_head, plain_link,
+    plain_signal, with_changes,
+};
 use time_space::{Timing, holds};
 
 /// A street with red at both signals for so many parts, so far apart outbound and inbound, whose cycle stands in tenths of a second, the

@@ -9,7 +9,7 @@ use std::rt::HostRuntime;
 use std::test::Fail;
 use test_bed::{Reader, all_told, flaw_text};
 use time_space::Timing;
-use typed_plan::{TypedFault, timing_of};
+use typed_plan::{Measured, TypedFault, timing_of};
 
 /// What the street of the examples says of the whole.
 static BROADWAY: &str =
@@ -53,16 +53,21 @@ band 1764 1420
 end
 ";
 
-/// Changes of the plan that leave its timing as it is: none, times of travel, offsets of the green, and later ones.
-static SAME: [&str; 4] = [
+/// Changes of the plan that leave its timing as it is: none, times of travel, offsets from each other moment, and later ones.
+static SAME: [&str; 9] = [
     "",
     "6 travel_out = [\"11.52\", \"11.52\", \"17.28\", \"20.52\", \"108/5\", \"12.6\", \"12.60\"]",
-    "4 reference = \"green\"|3 offset = [\"37.8\", \"43.2\", \"37.8\", \"73.8\", \"84.8\", \"32.6\", 27, \"38.2\"]",
+    "4",
+    "4 reference = \"green_out\"|3 offset = [\"37.8\", \"52.2\", \"48.6\", \"73.8\", \"84.8\", \"32.6\", 27, \"38.2\"]",
+    "4 reference = \"green_in\"|3 offset = [\"37.8\", \"43.2\", \"37.8\", \"73.8\", \"84.8\", \"41.6\", 27, \"38.2\"]",
+    "4 reference = \"first_green\"|3 offset = [\"37.8\", \"43.2\", \"37.8\", \"73.8\", \"84.8\", \"32.6\", 27, \"38.2\"]",
+    "4 reference = \"end_out\"|3 offset = [0, 18, 9, 36, 47, 2, 81, 4]",
+    "4 reference = \"end_in\"|3 offset = [0, 18, \"88.2\", 45, 47, 2, 81, 4]",
     "4|3 offset = [90, 108, 99, 135, 137, 92, 171, 94]",
 ];
 
 /// Changes of the plan, and why it is refused.
-static REFUSALS: [&str; 22] = [
+static REFUSALS: [&str; 27] = [
     "1 [plan -> NotToml file",
     "1 versoin = 1\n[plan] -> UnknownKey versoin",
     "2 cycle = 90\nname = \"x\" -> UnknownKey plan.name",
@@ -80,11 +85,16 @@ static REFUSALS: [&str; 22] = [
     "2 cycle = \"1e2\" -> BadNumber plan.cycle",
     "3 offset = [0, 18, -1] -> OutOfRange plan.offset[3]",
     "4 reference = \"amber\" -> OutOfRange plan.reference",
+    "4 reference = \"green\" -> OutOfRange plan.reference",
+    "6 speed_out = [\"999999999999999998/999999999999999999\"] -> OutOfRange plan.speed_out[1]",
+    "7 speed_in = [50, \"300.000000000000000001\"] -> OutOfRange plan.speed_in[2]",
+    "6 speed_out = [\"1000000000000000000/1\"] -> BadNumber plan.speed_out[1]",
     "1 version = 2\n[plan] -> OutOfRange version",
     "3 offset = [0, 18, 9, 45, 47, 2, 81] -> CountMismatch plan.offset",
     "5 patterns = [1, 2, 2, 1, 1, 1, 1, 1, 1] -> CountMismatch plan.patterns",
     "6 travel_out = [9] -> CountMismatch plan.travel_out",
     "6 speed_out = [\"99.991\", \"99.989\", \"99.971\", \"99.961\", \"99.929\", \"99.923\", \"99.907\"] -> ticks 99841088358677995881502010",
+    "3 offset = [0, \"0.001\", 9, 45, 47, 2, 81, 4]|6 speed_out = [\"999999999999999989/20000000000000000\", \"999999999999999967/20000000000000000\", 50, 40, 50, 50, 50] -> ticks 170141183460469231731687303715884105727",
 ];
 
 /// Writes the signals at the end.
@@ -137,14 +147,14 @@ fn fault_text(alloc: Global, fault: TypedFault) -> Result<String, Fail> {
 }
 
 /// The plan's timing, with nothing said of it.
-fn timing(alloc: Global, artery: &Artery, plan: &TypedPlan) -> Result<Timing, TypedFault> {
+fn timing(alloc: Global, artery: &Artery, plan: &TypedPlan) -> Result<Measured, TypedFault> {
     timing_of(alloc, artery, plan)
 }
 
 /// The text of the plan's timing, or why there is none.
 fn timed(alloc: Global, artery: &Artery, plan: &TypedPlan) -> Result<String, Fail> {
     match timing(alloc, artery, plan) {
-        Ok(timing) => text_of(alloc, &timing),
+        Ok(made) => text_of(alloc, &made.timing),
         Err(fault) => fault_text(alloc, fault),
     }
 }

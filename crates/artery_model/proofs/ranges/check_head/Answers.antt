@@ -26,25 +26,33 @@ pub returns-in_err-check_pair : goal.returns-in_err-check_pair
 returns-in_err-check_pair c =
     let p = err_from_is_err_and c.from_residual-in_err-check_pair.result c.from_residual-in_err-check_pair.ensures.1 in
     let flaw = c.in_err-check_pair.field-0.0 in
-    rw (p.1, p.2) (later_named flaw _ _ (rw c.is_name_if_there-named.ensures at c.in_ok-check.ensures) (later_named flaw _ _ (rw c.is_between-parts.ensures at c.in_ok-check-2.ensures) (first_named flaw _ _ c.in_err-check_pair.ensures)))
+    rw (p.1, p.2) (later_named flaw _ _ (rw c.is_name_if_there-named.ensures at c.in_ok-check.ensures)
+    (later_named flaw _ _ (rw c.is_between-parts.ensures at c.in_ok-check-2.ensures) (first_named flaw _ _ c.in_err-check_pair.ensures)))
 
 pub returns-in_err-check-3 : goal.returns-in_err-check-3
 returns-in_err-check-3 c =
     let p = err_from_is_err_and c.from_residual-in_err-check-3.result c.from_residual-in_err-check-3.ensures.1 in
     let flaw = c.in_err-check-3.field-0.0 in
-    rw (p.1, p.2) (later_named flaw _ _ (rw c.is_name_if_there-named.ensures at c.in_ok-check.ensures) (later_named flaw _ _ (rw c.is_between-parts.ensures at c.in_ok-check-2.ensures) (later_named flaw _ _ c.in_ok-check_pair.ensures (first_named flaw _ _ (rw c.is_within-ratio.ensures at c.in_err-check-3.ensures)))))
+    rw (p.1, p.2) (later_named flaw _ _ (rw c.is_name_if_there-named.ensures at c.in_ok-check.ensures)
+    (later_named flaw _ _ (rw c.is_between-parts.ensures at c.in_ok-check-2.ensures) (later_named flaw _ _ c.in_ok-check_pair.ensures
+    (first_named flaw _ _ (rw c.is_within-ratio.ensures at c.in_err-check-3.ensures)))))
 
 pub returns-in_err-check-4 : goal.returns-in_err-check-4
 returns-in_err-check-4 c =
     let p = err_from_is_err_and c.from_residual-in_err-check-4.result c.from_residual-in_err-check-4.ensures.1 in
     let flaw = c.in_err-check-4.field-0.0 in
-    rw (p.1, p.2) (later_named flaw _ _ (rw c.is_name_if_there-named.ensures at c.in_ok-check.ensures) (later_named flaw _ _ (rw c.is_between-parts.ensures at c.in_ok-check-2.ensures) (later_named flaw _ _ c.in_ok-check_pair.ensures (later_named flaw _ _ (rw c.is_within-ratio.ensures at c.in_ok-check-3.ensures) (first_named flaw _ _ (rw c.is_share-out.ensures at c.in_err-check-4.ensures))))))
+    rw (p.1, p.2) (later_named flaw _ _ (rw c.is_name_if_there-named.ensures at c.in_ok-check.ensures)
+    (later_named flaw _ _ (rw c.is_between-parts.ensures at c.in_ok-check-2.ensures) (later_named flaw _ _ c.in_ok-check_pair.ensures
+    (later_named flaw _ _ (rw c.is_within-ratio.ensures at c.in_ok-check-3.ensures) (first_named flaw _ _ (rw c.is_share-out.ensures at c.in_err-check-4.ensures))))))
 
 pub returns-in_err-check-5 : goal.returns-in_err-check-5
 returns-in_err-check-5 c =
     let p = err_from_is_err_and c.from_residual-in_err-check-5.result c.from_residual-in_err-check-5.ensures.1 in
     let flaw = c.in_err-check-5.field-0.0 in
-    rw (p.1, p.2) (later_named flaw _ _ (rw c.is_name_if_there-named.ensures at c.in_ok-check.ensures) (later_named flaw _ _ (rw c.is_between-parts.ensures at c.in_ok-check-2.ensures) (later_named flaw _ _ c.in_ok-check_pair.ensures (later_named flaw _ _ (rw c.is_within-ratio.ensures at c.in_ok-check-3.ensures) (later_named flaw _ _ (rw c.is_share-out.ensures at c.in_ok-check-4.ensures) (first_named flaw _ _ (rw c.is_share-back.ensures at c.in_err-check-5.ensures)))))))
+    rw (p.1, p.2) (later_named flaw _ _ (rw c.is_name_if_there-named.ensures at c.in_ok-check.ensures)
+    (later_named flaw _ _ (rw c.is_between-parts.ensures at c.in_ok-check-2.ensures) (later_named flaw _ _ c.in_ok-check_pair.ensures
+    (later_named flaw _ _ (rw c.is_within-ratio.ensures at c.in_ok-check-3.ensures) (later_named flaw _ _ (rw c.is_share-out.ensures at c.in_ok-check-4.ensures)
+    (first_named flaw _ _ (rw c.is_share-back.ensures at c.in_err-check-5.ensures)))))))
 
 pub returns : goal.returns
 returns c =
@@ -52,4 +60,8 @@ returns c =
       | then-not-head w ↦ or_then _ _ _ w.if-not-head.true w.equal-is
       | else-not-head w ↦ or_else _ _ _ w.if-not-head.false w.equal-is
     ] in
-    later_judged c.check-6.result _ _ (rw c.is_name_if_there-named.ensures at c.in_ok-check.ensures) (later_judged c.check-6.result _ _ (rw c.is_between-parts.ensures at c.in_ok-check-2.ensures) (later_judged c.check-6.result _ _ c.in_ok-check_pair.ensures (later_judged c.check-6.result _ _ (rw c.is_within-ratio.ensures at c.in_ok-check-3.ensures) (later_judged c.check-6.result _ _ (rw c.is_share-out.ensures at c.in_ok-check-4.ensures) (later_judged c.check-6.result _ _ (rw c.is_share-back.ensures at c.in_ok-check-5.ensures) (last_judged c.check-6.result _ (rw equal at c.check-6.ensures)))))))
+    later_judged c.check-6.result _ _ (rw c.is_name_if_there-named.ensures at c.in_ok-check.ensures)
+    (later_judged c.check-6.result _ _ (rw c.is_between-parts.ensures at c.in_ok-check-2.ensures)
+    (later_judged c.check-6.result _ _ c.in_ok-check_pair.ensures (later_judged c.check-6.result _ _ (rw c.is_within-ratio.ensures at c.in_ok-check-3.ensures)
+    (later_judged c.check-6.result _ _ (rw c.is_share-out.ensures at c.in_ok-check-4.ensures)
+    (later_judged c.check-6.result _ _ (rw c.is_share-back.ensures at c.in_ok-check-5.ensures) (last_judged c.check-6.result _ (rw equal at c.check-6.ensures)))))))

@@ -24,13 +24,17 @@ pub returns-in_err-check_speeds-2 : goal.returns-in_err-check_speeds-2
 returns-in_err-check_speeds-2 c =
     let p = err_from_is_err_and c.from_residual-in_err-check_speeds-2.result c.from_residual-in_err-check_speeds-2.ensures.1 in
     let flaw = c.in_err-check_speeds-2.field-0.0 in
-    rw (p.1, p.2) (later_named flaw _ _ c.in_ok-check_distance.ensures (later_named flaw _ _ c.in_ok-check_distance-2.ensures (later_named flaw _ _ c.in_ok-check_speeds.ensures (first_named flaw _ _ c.in_err-check_speeds-2.ensures))))
+    rw (p.1, p.2) (later_named flaw _ _ c.in_ok-check_distance.ensures (later_named flaw _ _ c.in_ok-check_distance-2.ensures
+    (later_named flaw _ _ c.in_ok-check_speeds.ensures (first_named flaw _ _ c.in_err-check_speeds-2.ensures))))
 
 pub returns-in_err-check_change : goal.returns-in_err-check_change
 returns-in_err-check_change c =
     let p = err_from_is_err_and c.from_residual-in_err-check_change.result c.from_residual-in_err-check_change.ensures.1 in
     let flaw = c.in_err-check_change.field-0.0 in
-    rw (p.1, p.2) (later_named flaw _ _ c.in_ok-check_distance.ensures (later_named flaw _ _ c.in_ok-check_distance-2.ensures (later_named flaw _ _ c.in_ok-check_speeds.ensures (later_named flaw _ _ c.in_ok-check_speeds-2.ensures (first_named flaw _ _ c.in_err-check_change.ensures)))))
+    rw (p.1, p.2) (later_named flaw _ _ c.in_ok-check_distance.ensures (later_named flaw _ _ c.in_ok-check_distance-2.ensures
+    (later_named flaw _ _ c.in_ok-check_speeds.ensures (later_named flaw _ _ c.in_ok-check_speeds-2.ensures (first_named flaw _ _ c.in_err-check_change.ensures)))))
 
 pub returns : goal.returns
-returns c = later_judged c.check_change-2.result _ _ c.in_ok-check_distance.ensures (later_judged c.check_change-2.result _ _ c.in_ok-check_distance-2.ensures (later_judged c.check_change-2.result _ _ c.in_ok-check_speeds.ensures (later_judged c.check_change-2.result _ _ c.in_ok-check_speeds-2.ensures (later_judged c.check_change-2.result _ _ c.in_ok-check_change.ensures (last_judged c.check_change-2.result _ c.check_change-2.ensures)))))
+returns c = later_judged c.check_change-2.result _ _ c.in_ok-check_distance.ensures (later_judged c.check_change-2.result _ _ c.in_ok-check_distance-2.ensures
+    (later_judged c.check_change-2.result _ _ c.in_ok-check_speeds.ensures (later_judged c.check_change-2.result _ _ c.in_ok-check_speeds-2.ensures
+    (later_judged c.check_change-2.result _ _ c.in_ok-check_change.ensures (last_judged c.check_change-2.result _ c.check_change-2.ensures)))))

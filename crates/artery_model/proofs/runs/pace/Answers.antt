@@ -10,4 +10,12 @@ returns-clause-value c =
     let num : FitsSigned w128 c.num.result = search rules in
     let den : FitsSigned w128 c.den.result = search rules in
     let least : 0 < unit_length c.args.units = search rules in
-    c.reduced.ensures.value ∙ rw (to_z-of_z w128 c.num.result num, c.num.ensures.value, c.from.ensures, c.unit_length.ensures.value, c.unsigned_abs.ensures.value, to_z-of_z w128 c.den.result den, c.den.ensures.value) (over_whole c.args.given (unit_length c.args.units) least)
+    c.reduced.ensures.value ∙ rw (
+      to_z-of_z w128 c.num.result num,
+      c.num.ensures.value,
+      c.from.ensures,
+      c.unit_length.ensures.value,
+      c.unsigned_abs.ensures.value,
+      to_z-of_z w128 c.den.result den,
+      c.den.ensures.value,
+    ) (over_whole c.args.given (unit_length c.args.units) least)

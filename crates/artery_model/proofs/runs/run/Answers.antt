@@ -13,7 +13,17 @@ parts c =
     let top : FitsSigned w128 c.from-3.result = search rules in
     let den : FitsSigned w128 c.den.result = search rules in
     let num : FitsSigned w128 c.num.result = search rules in
-    c.reduced.ensures.value ∙ rw (to_z-of_z w128 c.from-3.result top, c.from-3.ensures, to_z-of_z w128 c.den.result den, c.den.ensures.value, c.from.ensures, c.from-2.ensures, c.unsigned_abs.ensures.value, to_z-of_z w128 c.num.result num, c.num.ensures.value) refl
+    c.reduced.ensures.value ∙ rw (
+      to_z-of_z w128 c.from-3.result top,
+      c.from-3.ensures,
+      to_z-of_z w128 c.den.result den,
+      c.den.ensures.value,
+      c.from.ensures,
+      c.from-2.ensures,
+      c.unsigned_abs.ensures.value,
+      to_z-of_z w128 c.num.result num,
+      c.num.ensures.value,
+    ) refl
 
 below_line : (c : goal.After-reduced) → 0 < c.args.bottom * unsigned_abs c.args.speed.num
 below_line c = mul-pos c.requires.bottom (above_zero c.args.speed c.requires.speed).1

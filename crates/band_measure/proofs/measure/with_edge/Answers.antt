@@ -5,7 +5,8 @@ pub returns-in-None : goal.returns-in-None
 returns-in-None c = held_past_none c.args.artery.now c.args.timing.now c.args.dir c.args.place c.args.best c.edge-first.result c.edge-first.ensures.value c.in-None.ensures c.requires.best
 
 pub returns-in-None-best : goal.returns-in-None-best
-returns-in-None-best c = first_found c.args.artery.now c.args.timing.now c.args.dir c.args.place c.edge-first.result c.in-Some.band c.edge-first.ensures.value c.edge-first.ensures.below c.in-Some.ensures (rw c.in-None-best.is at c.requires.best)
+returns-in-None-best c = first_found c.args.artery.now c.args.timing.now c.args.dir c.args.place c.edge-first.result c.in-Some.band c.edge-first.ensures.value
+    c.edge-first.ensures.below c.in-Some.ensures (rw c.in-None-best.is at c.requires.best)
 
 pub returns-then-is_better : goal.returns-then-is_better
 returns-then-is_better c =

@@ -22,7 +22,8 @@ returns-in-Err-Stopped g c =
     let u = rw c.in-Err-Stopped.field-0-is at c.in-Err-Stopped.ensures.grows in
     let greatest = rw c.as_slice.ensures.value at c.in-Some.ensures.greatest in
     let shown = subst (λ ns. Matches (IsShown c.grow.new.progress.incumbent (Some c.in-Some.greatest.index)) 0 ns c.in_ok-tree-in-Err-Stopped.tree.items) u.same c.in_ok-tree-in-Err-Stopped.ensures in
-    let answer = undone_answer r c.args.progress.meter.limit c.splits.nodes.items c.grow.new.nodes.items c.in_ok-tree-in-Err-Stopped.tree.items c.in-Some.greatest c.splits.progress c.grow.new.progress c.splits.invariant.holds.0 c.in-Err-Stopped.stop
+    let answer = undone_answer r c.args.progress.meter.limit c.splits.nodes.items c.grow.new.nodes.items c.in_ok-tree-in-Err-Stopped.tree.items
+    c.in-Some.greatest c.splits.progress c.grow.new.progress c.splits.invariant.holds.0 c.in-Err-Stopped.stop
     c.splits.invariant.holds.1 greatest c.in-Some.ensures.beaten shown u (c.in-Err-Stopped.ensures.limit ∙ c.splits.invariant.limit) in
     record {
       best = c.grow.new.progress.incumbent;

@@ -25,7 +25,8 @@ returns-in_ok-tree-in-Stuck g c =
     let before : Meter = record { spent = 0; limit = c.args.limit } in
     let opens = subst (λ a. Opens r (top_line a) before c.open_root.new.meter c.in_ok-opened.opened) c.in_ok-area.ensures c.in_ok-opened.ensures.opens in
     let s = c.in-Stuck.ensures.settles (top_line r.root) before c.in_ok-area.ensures opens in
-    let h = root_stuck r c.args.limit c.settle.new.progress.incumbent before c.open_root.new.meter c.in-Stuck.leaf c.in-Stuck.bound c.in-Stuck.site c.requires.sound refl c.in_ok-opened.ensures.limit s.0 s.1 in
+    let h = root_stuck r c.args.limit c.settle.new.progress.incumbent before c.open_root.new.meter c.in-Stuck.leaf c.in-Stuck.bound c.in-Stuck.site
+    c.requires.sound refl c.in_ok-opened.ensures.limit s.0 s.1 in
     record {
       best = c.settle.new.progress.incumbent;
       timing = c.halt.ensures.timing;
@@ -39,7 +40,8 @@ returns-in_ok-tree-in-Left g c =
     let opens = subst (λ a. Opens r (top_line a) before c.open_root.new.meter c.in_ok-opened.opened) c.in_ok-area.ensures c.in_ok-opened.ensures.opens in
     let s = c.in-Left.ensures.settles (top_line r.root) before c.in_ok-area.ensures opens in
     let start = c.in_ok-leaf-in-Left.ensures in
-    let h = root_left r c.args.limit c.settle.new.progress.incumbent before c.open_root.new.meter c.in_ok-leaf-in-Left.leaf c.in_ok-leaf-in-Left.bound c.in-Left.stop refl c.in_ok-opened.ensures.limit s.0 start.leaf start.bound start.covers s.1 in
+    let h = root_left r c.args.limit c.settle.new.progress.incumbent before c.open_root.new.meter c.in_ok-leaf-in-Left.leaf c.in_ok-leaf-in-Left.bound
+    c.in-Left.stop refl c.in_ok-opened.ensures.limit s.0 start.leaf start.bound start.covers s.1 in
     record {
       best = c.settle.new.progress.incumbent;
       timing = c.halt-in-Left.ensures.timing;

@@ -4,7 +4,13 @@ use Rattle.branch_and_bound.proofs.Showing.{none_shown, one_more, all_shown}
 use Rattle.branch_and_bound.proofs.shown.shown.Goals as goal
 
 pub loop-index-init : goal.loop-index-init
-loop-index-init g c = rw (c.into_iter-index-iterator.ensures.into_iter_gives, c.enumerate-index-items.ensures.source, c.enumerate-index-items.ensures.count, c.into_iter.ensures.rest, c.new-tree.ensures.items) (none_shown c.args.incumbent.now c.args.undone c.args.nodes.items)
+loop-index-init g c = rw (
+  c.into_iter-index-iterator.ensures.into_iter_gives,
+  c.enumerate-index-items.ensures.source,
+  c.enumerate-index-items.ensures.count,
+  c.into_iter.ensures.rest,
+  c.new-tree.ensures.items,
+) (none_shown c.args.incumbent.now c.args.undone c.args.nodes.items)
 
 pub loop-index-preserved : goal.loop-index-preserved
 loop-index-preserved g c =
@@ -17,4 +23,5 @@ loop-index-preserved g c =
 pub returns : goal.returns
 returns g c =
     let rest = c.loop-index.index-iterator.iter.rest in
-    all_shown c.args.incumbent.now c.args.undone c.args.nodes.items rest.items c.loop-index.index-iterator.count c.loop-index.tree.items c.loop-index.invariant (sym rest.ok.0 ∙ c.in-None.ensures.steps.0.0)
+    all_shown c.args.incumbent.now c.args.undone c.args.nodes.items rest.items c.loop-index.index-iterator.count c.loop-index.tree.items c.loop-index.invariant
+    (sym rest.ok.0 ∙ c.in-None.ensures.steps.0.0)

@@ -18,5 +18,6 @@ pub returns-clause-accepted : goal.returns-clause-accepted
 returns-clause-accepted g c = λ limit h.
     let s = c.args.sought.now in
     let k = g.S.Sought.kind s in
-    let e = certificate_is k.worth c.args.found.now _ _ _ _ _ c.worth_of-value.ensures c.claim_by-claim.ensures c.in_ok-timing.ensures c.in_ok-nodes.ensures c.as_slice.ensures.value _ c.certificate.ensures in
+    let e = certificate_is k.worth c.args.found.now _ _ _ _ _ c.worth_of-value.ensures c.claim_by-claim.ensures c.in_ok-timing.ensures c.in_ok-nodes.ensures
+    c.as_slice.ensures.value _ c.certificate.ensures in
     subst k.IsAccepted (sym e) (is_accepted (rules_from (g.S.Sought.program s) (g.S.Sought.meaning s)) k c.known_program.ensures.sought limit c.args.found.now h)

@@ -10,7 +10,8 @@ pub returns-in-Optimal : goal.returns-in-Optimal
 returns-in-Optimal g c = ok_map c.optimal_end.result _ _ (λ o h line before after e run.
     let p = g.P.Sought.program c.args.program.now in
     let s = subst (IsRunTo p line c.args.tableau.now after run.k) c.in-Optimal.is run.stops in
-    read_opens (rules_from p (g.P.Sought.meaning c.args.program.now)) line before after run.k s.0 run.leaves c.args.run.now.pivots run.pivots_are o (h line e s.1 (run.pivots_are ∙ ap capped s.0))) c.optimal_end.ensures
+    read_opens (rules_from p (g.P.Sought.meaning c.args.program.now)) line before after run.k s.0 run.leaves c.args.run.now.pivots run.pivots_are o
+    (h line e s.1 (run.pivots_are ∙ ap capped s.0))) c.optimal_end.ensures
 
 pub returns-in-Infeasible : goal.returns-in-Infeasible
 returns-in-Infeasible g c = ok_map c.infeasible_end.result _ _ (λ o h line before after e run.

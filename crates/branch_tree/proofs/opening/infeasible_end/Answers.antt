@@ -28,7 +28,8 @@ returns-in-Bound g c = λ line e r.
     let ws = c.in_ok-leaf.leaf.multipliers.items in
     let read : ws ≡ end_leaf p line = refuter_read p line c.args.tableau.now c.args.row ws r c.in_ok-leaf.ensures.list in
     let s = subst (IsSummed p c.args.area.now ws) c.in-Bound.is c.in_ok-sum.ensures in
-    opens_empty p (g.P.Sought.meaning c.args.program.now) (g.P.Sought.IsFor c.args.program.now) c.known_program.ensures.ends line c.in_ok-leaf.leaf read (ap₂ p.leaf_fault e (sym read) ∙ s.0) c.args.row r.move_is
+    opens_empty p (g.P.Sought.meaning c.args.program.now) (g.P.Sought.IsFor c.args.program.now) c.known_program.ensures.ends line c.in_ok-leaf.leaf read
+    (ap₂ p.leaf_fault e (sym read) ∙ s.0) c.args.row r.move_is
 
 pub returns-in-Wide : goal.returns-in-Wide
 returns-in-Wide g c = λ line e r.

@@ -15,11 +15,13 @@ solve_node-end-requires-clause-unspent g c = ap (λ (t : NamedTableau). t.spent)
 pub returns-clause-made : goal.returns-clause-made
 returns-clause-made g c =
     let solved = c.solve_node-end.ensures.solved in
-    made_after (g.P.Sought.program c.args.program.now) c.requires.first.0 c.known_program.ensures.sound c.args.tableau.now c.solve_node-end.new.tableau _ _ _ _ solved.0 c.requires.first.1 c.solve_node-end.result c.known_named.ensures.shaped solved.1
+    made_after (g.P.Sought.program c.args.program.now) c.requires.first.0 c.known_program.ensures.sound c.args.tableau.now c.solve_node-end.new.tableau
+    _ _ _ _ solved.0 c.requires.first.1 c.solve_node-end.result c.known_named.ensures.shaped solved.1
 
 pub returns-clause-run : goal.returns-clause-run
 returns-clause-run g c = λ line o.
     let solved = c.solve_node-end.ensures.solved in
     let new = c.solve_node-end.new.meter in
-    run_from (g.P.Sought.program c.args.program.now) line c.known_program.ensures.sound c.args.tableau.now c.solve_node-end.new.tableau _ _ _ _ solved.0 o _ _ c.solve_node-end.result refl c.spend.ensures.spent refl refl
+    run_from (g.P.Sought.program c.args.program.now) line c.known_program.ensures.sound c.args.tableau.now c.solve_node-end.new.tableau _ _ _ _ solved.0
+    o _ _ c.solve_node-end.result refl c.spend.ensures.spent refl refl
     (within_limit new.spent new.limit c.solve_node-end.ensures.within) solved.1

@@ -25,7 +25,8 @@ read_end-requires-clause-covering g c =
     record {
       leaf_is = c.in_ok-leaf.ensures.list;
       fits = s.0;
-      bound_is = s.1 ∙ ap₂ (λ b us. (leaf_row p b us).bound) (sym c.requires.run.1) read ∙ (leaf_covers p line c.known_program.ensures.sound r.move_is).bound ∙ ap (λ t. goal_bound t.table) (sym r.tableau_is);
+      bound_is = s.1 ∙ ap₂ (λ b us. (leaf_row p b us).bound) (sym c.requires.run.1) read ∙ (leaf_covers p line c.known_program.ensures.sound r.move_is).bound
+          ∙ ap (λ t. goal_bound t.table) (sym r.tableau_is);
     }
 
 pub returns-in-Wide : goal.returns-in-Wide

@@ -6,7 +6,8 @@ use Rattle.certificate_checker.proofs.leaves.check_leaf.Goals as goal
 
 pub returns-in-Err-clause-first : goal.returns-in-Err-clause-first
 returns-in-Err-clause-first g c =
-    rw c.rejected.ensures (leaf_rejected _ ((g.K.CheckedKind.kind c.args.kind.now).rows c.args.area.now) c.args.aim.now c.args.number c.args.leaf.now.multipliers.items c.in-Err.fault c.in-Err.ensures.fault)
+    rw c.rejected.ensures (leaf_rejected _ ((g.K.CheckedKind.kind c.args.kind.now).rows c.args.area.now) c.args.aim.now c.args.number
+    c.args.leaf.now.multipliers.items c.in-Err.fault c.in-Err.ensures.fault)
 
 pub returns-in-Ok-shown-clause-none : goal.returns-in-Ok-shown-clause-none
 returns-in-Ok-shown-clause-none g c =

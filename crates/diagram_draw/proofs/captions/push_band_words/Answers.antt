@@ -12,5 +12,6 @@ returns c =
     let bottom = c.plot_bottom-level.ensures.value in
     on_ok_weaker c.push_words-2.result
     (λ e. two_listed _ _ _ _ _ c.in_ok-push_words.ensures e
-    ∙ (λ i. c.args.out.now.items ++ (words_text Key (pos (c.args.frame.left + 4600)) (pos (bottom i + 785)) (codes "outbound band, lower bars") ++ (words_text Key (pos (c.args.frame.left + 7000)) (pos (bottom i + 785)) (codes "inbound band, upper bars") ++ []))))
+    ∙ (λ i. c.args.out.now.items ++ (words_text Key (pos (c.args.frame.left + 4600)) (pos (bottom i + 785)) (codes "outbound band, lower bars")
+    ++ (words_text Key (pos (c.args.frame.left + 7000)) (pos (bottom i + 785)) (codes "inbound band, upper bars") ++ []))))
     c.push_words-2.ensures

@@ -12,5 +12,6 @@ unfolding heads
 returns c =
     on_ok_weaker c.push_title_heads.result
     (λ e. three_pushed _ _ _ _ _ _ _ c.in_ok-push_name_head.ensures c.in_ok-push_facts_head.ensures e
-    ∙ (λ i. c.args.out.now.items ++ (sized_text (name_head c.args.frame c.args.artery.now) ++ (sized_words_text Facts facts_size (pos 220) (pos (c.facts_level.ensures i)) (facts_text c.args.artery.now c.args.timing.now) ++ sizeds_text (title_heads c.args.frame _)))))
+    ∙ (λ i. c.args.out.now.items ++ (sized_text (name_head c.args.frame c.args.artery.now)
+    ++ (sized_words_text Facts facts_size (pos 220) (pos (c.facts_level.ensures i)) (facts_text c.args.artery.now c.args.timing.now) ++ sizeds_text (title_heads c.args.frame _)))))
     c.push_title_heads.ensures

@@ -13,5 +13,7 @@ returns c =
     let head = c.head-units.ensures.value in
     on_ok_weaker c.push_speed_head-2.result
     (λ e. three_listed _ _ _ _ _ _ _ c.in_ok-push_length_head.ensures c.in_ok-push_speed_head.ensures e
-    ∙ (λ i. c.args.out.now.items ++ (words_text HeadEnd (pos (right i + 880)) head_level (lengths_head c.args.artery.now) ++ (words_text HeadEnd (pos (right i + 1480)) head_level (codes "out " ++ unit_of_speed (head i).units) ++ (words_text HeadEnd (pos (right i + 2060)) head_level (codes "in " ++ unit_of_speed (head i).units) ++ [])))))
+    ∙ (λ i. c.args.out.now.items ++ (words_text HeadEnd (pos (right i + 880)) head_level (lengths_head c.args.artery.now)
+    ++ (words_text HeadEnd (pos (right i + 1480)) head_level (codes "out " ++ unit_of_speed (head i).units)
+    ++ (words_text HeadEnd (pos (right i + 2060)) head_level (codes "in " ++ unit_of_speed (head i).units) ++ [])))))
     c.push_speed_head-2.ensures

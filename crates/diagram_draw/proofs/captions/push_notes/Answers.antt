@@ -13,5 +13,6 @@ returns c =
     let width = c.plot_width-middle.ensures.value in
     on_ok_weaker c.push_words-2.result
     (λ e. two_listed _ _ _ _ _ c.in_ok-push_words.ensures e
-    ∙ (λ i. c.args.out.now.items ++ (words_text Axis (pos (c.args.frame.left + width i / 2)) (pos (bottom i + 420)) (c.axis_words.ensures i) ++ (words_text Key (pos (c.args.frame.left + 480)) (pos (bottom i + 1035)) (c.bar_words.ensures i) ++ []))))
+    ∙ (λ i. c.args.out.now.items ++ (words_text Axis (pos (c.args.frame.left + width i / 2)) (pos (bottom i + 420)) (c.axis_words.ensures i)
+    ++ (words_text Key (pos (c.args.frame.left + 480)) (pos (bottom i + 1035)) (c.bar_words.ensures i) ++ []))))
     c.push_words-2.ensures

@@ -8,5 +8,6 @@ pub returns : goal.returns
 unfolding signal_marks
 returns c =
     on_ok_weaker c.push_marks_at-2.result
-    (two_rows _ _ _ (marks_at c.args.frame c.args.artery.now c.args.timing.now Outbound c.args.signal) (marks_at c.args.frame c.args.artery.now c.args.timing.now Inbound c.args.signal) c.in_ok-push_marks_at.ensures)
+    (two_rows _ _ _ (marks_at c.args.frame c.args.artery.now c.args.timing.now Outbound c.args.signal) (marks_at c.args.frame c.args.artery.now c.args.timing.now Inbound c.args.signal)
+    c.in_ok-push_marks_at.ensures)
     c.push_marks_at-2.ensures

@@ -7,7 +7,8 @@ use Rattle.diagram_draw.proofs.captions.push_signal_rows.Goals as goal
 
 pub loop-signal-preserved : goal.loop-signal-preserved
 loop-signal-preserved c =
-    row_written_up caption_text c.args.out.now.items _ _ c.loop-signal.signal c.loop-signal.invariant.0 (signal_row c.args.frame c.args.artery.now c.args.timing.now) c.in_ok-push_signal_row.ensures c.loop-signal.invariant.1
+    row_written_up caption_text c.args.out.now.items _ _ c.loop-signal.signal c.loop-signal.invariant.0 (signal_row c.args.frame c.args.artery.now c.args.timing.now)
+    c.in_ok-push_signal_row.ensures c.loop-signal.invariant.1
 
 pub returns : goal.returns
 returns c =

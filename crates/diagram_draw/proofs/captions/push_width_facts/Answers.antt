@@ -5,4 +5,5 @@ use Rattle.diagram_draw.proofs.captions.push_width_facts.Goals as goal
 
 pub returns : goal.returns
 unfolding width_facts
-returns c = on_ok_weaker c.push_text-3.result (five_pushed _ _ _ _ _ _ _ _ _ _ _ c.in_ok-push_text.ensures c.in_ok-push_width.ensures c.in_ok-push_text-2.ensures c.in_ok-push_percent.ensures) c.push_text-3.ensures
+returns c = on_ok_weaker c.push_text-3.result (five_pushed _ _ _ _ _ _ _ _ _ _ _ c.in_ok-push_text.ensures c.in_ok-push_width.ensures c.in_ok-push_text-2.ensures
+    c.in_ok-push_percent.ensures) c.push_text-3.ensures

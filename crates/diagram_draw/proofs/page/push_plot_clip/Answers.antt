@@ -9,6 +9,8 @@ pub returns : goal.returns
 unfolding plot_clip
 returns c =
     on_ok_weaker c.push_text-4.result
-    (λ e. two_pushed _ _ _ _ _ c.in_ok-push_text.ensures (six_pushed _ _ _ _ _ _ _ _ _ _ _ _ _ c.in_ok-push_number.ensures c.in_ok-push_text-2.ensures c.in_ok-push_number-2.ensures c.in_ok-push_text-3.ensures c.in_ok-push_number-3.ensures e)
-    ∙ (λ i. c.args.out.now.items ++ (codes "<clipPath id=\"plot\"><rect x=\"" ++ (decimal c.args.frame.left ++ (codes "\" y=\"1500\" width=\"" ++ (decimal (c.plot_width-width.ensures.value i) ++ (codes "\" height=\"" ++ (decimal (plot_height c.args.frame) ++ codes "\"/></clipPath>\n"))))))))
+    (λ e. two_pushed _ _ _ _ _ c.in_ok-push_text.ensures (six_pushed _ _ _ _ _ _ _ _ _ _ _ _ _ c.in_ok-push_number.ensures c.in_ok-push_text-2.ensures
+    c.in_ok-push_number-2.ensures c.in_ok-push_text-3.ensures c.in_ok-push_number-3.ensures e)
+    ∙ (λ i. c.args.out.now.items ++ (codes "<clipPath id=\"plot\"><rect x=\"" ++ (decimal c.args.frame.left ++ (codes "\" y=\"1500\" width=\""
+    ++ (decimal (c.plot_width-width.ensures.value i) ++ (codes "\" height=\"" ++ (decimal (plot_height c.args.frame) ++ codes "\"/></clipPath>\n"))))))))
     c.push_text-4.ensures

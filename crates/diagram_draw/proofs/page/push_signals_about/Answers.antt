@@ -6,7 +6,8 @@ use Rattle.diagram_draw.proofs.page.push_signals_about.Goals as goal
 
 pub loop-signal-preserved : goal.loop-signal-preserved
 loop-signal-preserved c =
-    piece_written_up c.args.out.now.items _ _ c.loop-signal.signal c.loop-signal.invariant.0 (signal_about c.args.artery.now c.args.timing.now) c.in_ok-push_signal_about.ensures c.loop-signal.invariant.1
+    piece_written_up c.args.out.now.items _ _ c.loop-signal.signal c.loop-signal.invariant.0 (signal_about c.args.artery.now c.args.timing.now)
+    c.in_ok-push_signal_about.ensures c.loop-signal.invariant.1
 
 pub returns : goal.returns
 returns c =

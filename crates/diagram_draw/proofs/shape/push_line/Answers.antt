@@ -16,5 +16,7 @@ returns c =
     let next_y = to_z-of_z w128 c.args.next_y c.ranges.next_y in
     on_ok_weaker c.push_text.result
     (λ e. six_pushed _ _ _ _ _ _ _ _ _ _ _ _ _ c.in_ok-push_line_opening.ensures c.in_ok-push_part.ensures c.in_ok-push_part-2.ensures c.in_ok-push_part-3.ensures c.in_ok-push_part-4.ensures e
-    ∙ (λ i. c.args.out.now.items ++ (codes "<line class=\"" ++ (paint_class c.args.paint ++ ((codes "\" x1=\"" ++ signed_decimal (x i)) ++ ((codes "\" y1=\"" ++ signed_decimal (y i)) ++ ((codes "\" x2=\"" ++ signed_decimal (next_x i)) ++ ((codes "\" y2=\"" ++ signed_decimal (next_y i)) ++ codes "\"/>\n"))))))))
+    ∙ (λ i. c.args.out.now.items ++ (codes "<line class=\"" ++ (paint_class c.args.paint ++ ((codes "\" x1=\"" ++ signed_decimal (x i))
+    ++ ((codes "\" y1=\"" ++ signed_decimal (y i)) ++ ((codes "\" x2=\"" ++ signed_decimal (next_x i))
+    ++ ((codes "\" y2=\"" ++ signed_decimal (next_y i)) ++ codes "\"/>\n"))))))))
     c.push_text.ensures

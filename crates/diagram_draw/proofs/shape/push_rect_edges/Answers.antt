@@ -14,6 +14,7 @@ returns c =
     let bottom = to_z-of_z w128 c.args.bottom c.ranges.bottom in
     on_ok_weaker c.push_part-3.result
     (λ e. four_pushed _ _ _ _ _ _ _ _ _ c.in_ok-push_corner.ensures c.in_ok-push_part.ensures c.in_ok-push_part-2.ensures e
-    ∙ (λ i. c.args.out.now.items ++ ((signed_decimal (left i) ++ (codes "," ++ signed_decimal (top i))) ++ ((codes "H" ++ signed_decimal (right i)) ++ ((codes "V" ++ signed_decimal (bottom i)) ++ (codes "H" ++ signed_decimal (left i))))))
+    ∙ (λ i. c.args.out.now.items ++ ((signed_decimal (left i) ++ (codes "," ++ signed_decimal (top i)))
+    ++ ((codes "H" ++ signed_decimal (right i)) ++ ((codes "V" ++ signed_decimal (bottom i)) ++ (codes "H" ++ signed_decimal (left i))))))
     ∙ ap (λ (w : List ℕ). c.args.out.now.items ++ w) (append_assoc (signed_decimal c.args.left) (codes "," ++ signed_decimal c.args.top) _))
     c.push_part-3.ensures

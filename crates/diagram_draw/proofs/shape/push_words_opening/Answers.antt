@@ -12,5 +12,6 @@ returns c =
     let y = to_z-of_z w128 c.args.y c.ranges.y in
     on_ok_weaker c.push_text-3.result
     (λ e. five_pushed _ _ _ _ _ _ _ _ _ _ _ c.in_ok-push_text.ensures c.in_ok-push_text-2.ensures c.in_ok-push_part.ensures c.in_ok-push_part-2.ensures e
-    ∙ (λ i. c.args.out.now.items ++ (codes "<text class=\"" ++ (c.letter_class.ensures i ++ ((codes "\" x=\"" ++ signed_decimal (x i)) ++ ((codes "\" y=\"" ++ signed_decimal (y i)) ++ codes "\">"))))))
+    ∙ (λ i. c.args.out.now.items ++ (codes "<text class=\"" ++ (c.letter_class.ensures i ++ ((codes "\" x=\"" ++ signed_decimal (x i))
+    ++ ((codes "\" y=\"" ++ signed_decimal (y i)) ++ codes "\">"))))))
     c.push_text-3.ensures

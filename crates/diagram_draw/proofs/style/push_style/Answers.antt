@@ -8,6 +8,9 @@ pub returns : goal.returns
 unfolding style_text
 returns c =
     on_ok_weaker c.push_text-8.result
-    (λ e. eight_pushed _ _ _ _ _ _ _ _ _ _ _ _ _ _ _ _ _ c.in_ok-push_text.ensures c.in_ok-push_text-2.ensures c.in_ok-push_text-3.ensures c.in_ok-push_text-4.ensures c.in_ok-push_text-5.ensures c.in_ok-push_text-6.ensures c.in_ok-push_text-7.ensures e
-    ∙ (λ i. c.args.out.now.items ++ (codes "<style>\n" ++ (c.fonts_style.ensures i ++ (c.sizes_style.ensures i ++ (c.words_style.ensures i ++ (c.lines_style.ensures i ++ (c.bands_style.ensures i ++ (c.bars_style.ensures i ++ codes "</style>\n")))))))))
+    (λ e. eight_pushed _ _ _ _ _ _ _ _ _ _ _ _ _ _ _ _ _ c.in_ok-push_text.ensures c.in_ok-push_text-2.ensures c.in_ok-push_text-3.ensures
+    c.in_ok-push_text-4.ensures c.in_ok-push_text-5.ensures c.in_ok-push_text-6.ensures c.in_ok-push_text-7.ensures e
+    ∙ (λ i. c.args.out.now.items ++ (codes "<style>\n"
+    ++ (c.fonts_style.ensures i ++ (c.sizes_style.ensures i
+    ++ (c.words_style.ensures i ++ (c.lines_style.ensures i ++ (c.bands_style.ensures i ++ (c.bars_style.ensures i ++ codes "</style>\n")))))))))
     c.push_text-8.ensures

@@ -23,5 +23,6 @@ returns c =
     (λ r h. ap (λ (x : List ℚ). get_or x r (whole (pos 0))) d
     ∙ c.put_slacks.ensures r (omega (arith, c.rows.ensures.shape.named, c.rows.ensures.count, ap length c.deref_mut.ensures.value, n))
     ∙ ap (λ x. cell_of x t.standing (width t + r)) (goal_read t _ c.rows-2.ensures.count)) in
-    ok_with c.named.result (λ (list : Vec Weight Global). list.items ≡ multipliers_below names (λ r. get_or c.deref.result.now r (whole (pos 0))) (length names)) (λ (list : Vec Weight Global). list.items ≡ goal_multipliers c.args.tableau.now)
+    ok_with c.named.result (λ (list : Vec Weight Global). list.items ≡ multipliers_below names (λ r. get_or c.deref.result.now r (whole (pos 0))) (length names))
+    (λ (list : Vec Weight Global). list.items ≡ goal_multipliers c.args.tableau.now)
     (λ list h. h ∙ same) c.named.ensures

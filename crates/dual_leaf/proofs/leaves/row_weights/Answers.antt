@@ -27,12 +27,14 @@ returns-clause-list c =
     let d : c.deref.result.now ≡ c.put.new.values = c.deref.ensures.value ∙ with_items_is u c.put.new.values (c.put.auto.values ∙ ap length c.deref_mut-2.ensures.value ∙ sym u.ok.0) in
     let same = multipliers_same names (λ r. get_or c.deref.result.now r (whole (pos 0))) (λ r. row_weight t i (width t + r)) (length names)
     (λ r h.
-    let slack = c.put_slacks.ensures r (omega (arith, c.rows.ensures.shape.named, c.rows.ensures.count, ap length c.deref_mut.ensures.value, n)) ∙ ap (λ x. cell_of x t.standing (width t + r)) (row_read t i c.requires) in
+    let slack = c.put_slacks.ensures r (omega (arith, c.rows.ensures.shape.named, c.rows.ensures.count, ap length c.deref_mut.ensures.value, n))
+    ∙ ap (λ x. cell_of x t.standing (width t + r)) (row_read t i c.requires) in
     ap (λ (x : List ℚ). get_or x r (whole (pos 0))) d
     ∙ c.put.ensures r (omega (arith, c.rows.ensures.shape.named, c.rows.ensures.count, ap length b, l, n))
     ∙ ap₂ (λ x y. cond (eqb (c.width.result + r) x) y (get_or c.deref_mut-2.result.now r (whole (pos 0)))) c.basic.ensures (c.of_fraction.ensures ∙ c.whole.ensures)
     ∙ ap₂ (λ x y. cond (eqb (x + r) (basic_at t i)) (whole (pos 1)) y) c.width.ensures.count (ap (λ (x : List ℚ). get_or x r (whole (pos 0))) b ∙ slack)) in
-    ok_with c.named.result (λ (list : Vec Weight Global). list.items ≡ multipliers_below names (λ r. get_or c.deref.result.now r (whole (pos 0))) (length names)) (λ (list : Vec Weight Global). list.items ≡ row_multipliers c.args.tableau.now i)
+    ok_with c.named.result (λ (list : Vec Weight Global). list.items ≡ multipliers_below names (λ r. get_or c.deref.result.now r (whole (pos 0))) (length names))
+    (λ (list : Vec Weight Global). list.items ≡ row_multipliers c.args.tableau.now i)
     (λ list h. h ∙ same) c.named.ensures
 
 pub put_slacks-requires : goal.put_slacks-requires

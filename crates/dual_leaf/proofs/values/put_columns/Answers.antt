@@ -8,7 +8,8 @@ loop-row-preserved c =
     let i = c.loop-row.invariant in
     record {
       within = omega arith;
-      written = basics_next t (length c.args.values.now) c.loop-row.values c.put.new.values c.loop-row.row (c.loop-row.row - 1) c.basic.result c.held.result c.rows-row.ensures.shape.shaped i.written (omega arith) (omega arith)
+      written = basics_next t (length c.args.values.now) c.loop-row.values c.put.new.values c.loop-row.row (c.loop-row.row - 1) c.basic.result c.held.result
+          c.rows-row.ensures.shape.shaped i.written (omega arith) (omega arith)
           c.basic.ensures (c.held.ensures ∙ bound_read t _ _ (omega arith) c.width-width.ensures.count) c.put.auto.values c.put.ensures;
     }
 

@@ -57,7 +57,8 @@ loop-index-preserved c =
     let x = next_in (cell t c.args.row) l.at (width t) c.loop-index.index c.kept-entries.result.now k e c.index-entries-index.is l.high l.count (omega arith) in
     let q = attempt_ok _ _ _ c.in-Ok.ensures in
     looking_next t c.args.row c.loop-index.index c.loop-index.best c.in-Ok.next k l x
-    (place_next t c.args.row k.place c.loop-index.best c.in-Ok.next (looking_passed t c.args.row c.loop-index.index c.loop-index.best k.place l x.after x.zeros) (looking_chosen t c.args.row c.loop-index.index c.loop-index.best k.place l x.after x.zeros) q.0 q.1)
+    (place_next t c.args.row k.place c.loop-index.best c.in-Ok.next (looking_passed t c.args.row c.loop-index.index c.loop-index.best k.place l x.after x.zeros)
+    (looking_chosen t c.args.row c.loop-index.index c.loop-index.best k.place l x.after x.zeros) q.0 q.1)
 
 pub returns : goal.returns
 unfolding chosen_place ratio_refusal

@@ -46,13 +46,15 @@ pub returns-in-Ok-pivot-clause-outcome : goal.returns-in-Ok-pivot-clause-outcome
 returns-in-Ok-pivot-clause-outcome c =
     let t = c.args.tableau.now.table in
     let q = attempt_ok _ _ _ c.in-Ok.ensures in
-    sym (step_pivoted t c.in-Some.row c.in-Some-chosen.best.place c.in-Some.ensures q.0 (chosen_at t c.in-Some.row _ c.in-Some-chosen.best c.in-Some-chosen.is q.1) (attempt_ok _ _ _ c.in-Ok-pivot.ensures.outcome).0)
+    sym (step_pivoted t c.in-Some.row c.in-Some-chosen.best.place c.in-Some.ensures q.0 (chosen_at t c.in-Some.row _ c.in-Some-chosen.best c.in-Some-chosen.is q.1)
+    (attempt_ok _ _ _ c.in-Ok-pivot.ensures.outcome).0)
 
 pub returns-in-Err-pivot-clause-outcome : goal.returns-in-Err-pivot-clause-outcome
 returns-in-Err-pivot-clause-outcome c =
     let t = c.args.tableau.now.table in
     let q = attempt_ok _ _ _ c.in-Ok.ensures in
-    sym (step_wide t c.in-Some.row c.in-Some-chosen.best.place c.in-Err-pivot.cell c.in-Some.ensures q.0 (chosen_at t c.in-Some.row _ c.in-Some-chosen.best c.in-Some-chosen.is q.1) (attempt_err _ _ _ c.in-Err-pivot.ensures.outcome))
+    sym (step_wide t c.in-Some.row c.in-Some-chosen.best.place c.in-Err-pivot.cell c.in-Some.ensures q.0 (chosen_at t c.in-Some.row _ c.in-Some-chosen.best c.in-Some-chosen.is q.1)
+    (attempt_err _ _ _ c.in-Err-pivot.ensures.outcome))
 
 pub returns-in-Ok-pivot-clause-dual : goal.returns-in-Ok-pivot-clause-dual
 returns-in-Ok-pivot-clause-dual c =

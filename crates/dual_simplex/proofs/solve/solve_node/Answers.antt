@@ -36,6 +36,8 @@ loop-pivots-smaller c =
 pub loop-pivots-preserved : goal.loop-pivots-preserved
 loop-pivots-preserved c = record {
   unspent = ap (λ (t : NamedTableau). t.spent) c.in-Pivoted.ensures.after ∙ c.loop-pivots.invariant.unspent;
-  running = running_next c.args.tableau.now c.args.pivots.now c.args.meter.now c.loop-pivots.tableau c.step.new.tableau c.loop-pivots.pivots c.saturating_add.result c.loop-pivots.meter _ c.in-Pivoted.row c.in-Pivoted.col
-      c.loop-pivots.invariant.running (sym c.is_stopped.ensures ∙ c.if-is_stopped.false) (sym c.in-Pivoted.ensures.outcome) c.in-Pivoted.ensures.after c.saturating_add.ensures c.spend.ensures.spent c.spend.ensures.limit;
+  running = running_next c.args.tableau.now c.args.pivots.now c.args.meter.now c.loop-pivots.tableau c.step.new.tableau c.loop-pivots.pivots
+      c.saturating_add.result c.loop-pivots.meter _ c.in-Pivoted.row c.in-Pivoted.col
+      c.loop-pivots.invariant.running (sym c.is_stopped.ensures ∙ c.if-is_stopped.false) (sym c.in-Pivoted.ensures.outcome) c.in-Pivoted.ensures.after
+      c.saturating_add.ensures c.spend.ensures.spent c.spend.ensures.limit;
 }

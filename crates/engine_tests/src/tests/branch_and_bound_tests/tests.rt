@@ -7,9 +7,9 @@ use super::toy::Capped;
 use artery_model::Artery;
 use branch_and_bound::{Found, Stop, TreeNode, Verdict, law_enough, search};
 use narrow_fraction::Frac;
-use sample_streets::{SampleHead, plain_head, plain_link, plain_signal, range, sample_street};
 use std::alloc::Global;
 use std::test::Fail;
+use test_bed::{SampleHead, plain_head, plain_link, plain_signal, range, sample_street};
 
 fn head() -> SampleHead {
     SampleHead {

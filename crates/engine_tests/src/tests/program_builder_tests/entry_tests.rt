@@ -3,24 +3,21 @@
 ghost use Rattle.std.specs.Prelude.{◌≡◌, IfOk, false};
 ghost use Rattle.linear_theory.specs.Boxes.{IsBoxOf};
 ghost use Rattle.simplex_theory.specs.DualSteps.{IsDual};
-ghost use Rattle.program_builder.specs.{Building.{IsMadeFor}, Entry.{IsBasisOf}, First.{IsFirstFor}};
+ghost use Rattle.program_builder.specs.{Building.{IsMadeFor, IsLoadedFor}, Entry.{IsBasisOf}, First.{IsFirstFor}, Remembering.{IsMemoryOf}};
 
-use super::tests::{artery, is_same, opening, root};
+use super::tests::{artery, is_same, loaded, opening, root};
 use crate::tests::solving::solved;
 use artery_model::{Artery, Pair};
 use dual_simplex::{Meter, NodeEnd, solve_node};
 use fraction_tableau::Tableau;
-use loop_rows::column_count;
-use named_row::Row;
 use narrow_fraction::Frac;
-use program_builder::enter;
-use sample_streets::{SampleHead, SampleLink, plain_head, plain_signal, sample_street};
+use program_builder::{EntryMemory, enter_remembering};
 use search_box::{At, SearchBox};
 use std::alloc::Global;
 use std::process::Abort;
 use std::rt::HostRuntime;
 use std::test::Fail;
-use test_bed::fraction_or_zero;
+use test_bed::{SampleHead, SampleLink, fraction_or_zero, plain_head, plain_signal, sample_street};
 
 static BASIS: [u32; 16] = [0, 1, 2, 7, 8, 12, 14, 17, 18, 20, 21, 22, 23, 24, 25, 26];
 
@@ -52,64 +49,101 @@ fn best_end(
     }
 }
 
-/// The part of a box in which the block sum of the first link is 0 at most.
-fn low_part(alloc: Global, artery: &Artery, area: &SearchBox) -> Result<SearchBox, Fail>
+/// The parts of a box in which the block sum of the first link is 0 at most, and 1 at least.
+fn parts(alloc: Global, artery: &Artery, area: &SearchBox) -> Result<(SearchBox, SearchBox), Fail>
     requires { IsBoxOf artery.now area.now }
-    ensures { IfOk result (λ low. IsBoxOf artery.now low) }
+    ensures low { IfOk result (λ parts. IsBoxOf artery.now parts.0) }
+    ensures high { IfOk result (λ parts. IsBoxOf artery.now parts.1) }
 {
     match area.split(alloc, At::Loop { link: 1, at: 0 })? {
-        Some((low, _)) => Ok(low),
+        Some(parts) => Ok(parts),
         None => Err("no parts".into()),
     }
 }
 
-/// Makes the entry of a box: whether it is one, and the basic variables then.
-fn entered(
-    alloc: Global,
-    tableau: &mut Tableau,
-    artery: &Artery,
-    area: &SearchBox,
-    basis: &[u32],
-) -> Result<(bool, Vec<u32>), Fail>
-    requires boxed { IsBoxOf artery.now area.now }
-    requires made { IsMadeFor artery.now tableau.old }
-    requires basis { IsBasisOf artery.now basis.now }
-    ensures { IfOk result (λ _. IsDual tableau.new.table) }
-{
-    let mut room = Row::zero(alloc, column_count(artery))?;
-    let is_entry = enter(tableau, artery, area, basis, &mut room);
-    let basis = tableau.basis(alloc)?;
-    Ok((is_entry, basis))
+/// What the parts of a box are entered from: the loaded rows, and the basis where the box ended.
+#[derive(Clone, Copy)]
+struct Split<'a> {
+    artery: &'a Artery,
+    rows: &'a Tableau,
+    basis: &'a [u32],
 }
 
-/// Fails where the low part of a box isn't entered with this basis, which stays, or doesn't end after 4 pivots from there.
-fn enter_low_part(
+/// Fails where a part isn't entered with the worked basis, which stays.
+fn enter_part(
     rt: &impl Abort,
     alloc: Global,
-    artery: &Artery,
+    split: Split,
     area: &SearchBox,
     tableau: &mut Tableau,
-    basis: &[u32],
+    memory: &mut EntryMemory,
 ) -> Result<(), Fail>
-    requires boxed { IsBoxOf artery.now area.now }
-    requires made { IsMadeFor artery.now tableau.old }
-    requires basis { IsBasisOf artery.now basis.now }
+    requires boxed { IsBoxOf split.artery.now area.now }
+    requires made { IsMadeFor split.artery.now tableau.old }
+    requires basis { IsBasisOf split.artery.now split.basis.now }
+    requires loaded { IsLoadedFor split.artery.now split.rows.now }
+    requires memory { IsMemoryOf split.artery.now memory.old }
+    ensures dual { IfOk result (λ _. IsDual tableau.new.table) }
+    ensures unspent { IfOk result (λ _. tableau.new.spent ≡ false) }
+    ensures made { IfOk result (λ _. IsMadeFor split.artery.now tableau.new) }
+    ensures memory { IfOk result (λ _. IsMemoryOf split.artery.now memory.new) }
 {
-    let low = low_part(alloc, artery, area)?;
-    let (is_entry, left) = entered(alloc, tableau, artery, &low, basis)?;
+    let is_entry = enter_remembering(tableau, split.rows, split.artery, area, split.basis, memory)?;
+    let left = tableau.basis(alloc)?;
     assert!(rt; is_entry && left.as_slice() == BASIS.as_slice());
     assert!(rt; !tableau.is_spent());
+    Ok(())
+}
+
+/// From the entry of the low part of a box 4 pivots lead to its end.
+fn end_low(
+    rt: &impl Abort,
+    alloc: Global,
+    split: Split,
+    area: &SearchBox,
+    tableau: &mut Tableau,
+) -> Result<(), Fail>
+    requires boxed { IsBoxOf split.artery.now area.now }
+    requires made { IsMadeFor split.artery.now tableau.old }
+    requires basis { IsBasisOf split.artery.now split.basis.now }
+    requires loaded { IsLoadedFor split.artery.now split.rows.now }
+{
+    let (low, _) = parts(alloc, split.artery, area)?;
+    let mut memory = EntryMemory::new(alloc, split.artery)?;
+    enter_part(rt, alloc, split, &low, tableau, &mut memory)?;
     assert_eq!(rt; solved(tableau, NO_LIMIT, 0), (NodeEnd::Optimal, 4, 4));
     Ok(())
 }
 
-/// From the opening of a box to its best end, and from there to that of its low part.
+/// From the entry of the high part 5 do; it is made of what the low part's left in the memory.
+fn end_high(
+    rt: &impl Abort,
+    alloc: Global,
+    split: Split,
+    area: &SearchBox,
+    tableau: &mut Tableau,
+) -> Result<(), Fail>
+    requires boxed { IsBoxOf split.artery.now area.now }
+    requires made { IsMadeFor split.artery.now tableau.old }
+    requires basis { IsBasisOf split.artery.now split.basis.now }
+    requires loaded { IsLoadedFor split.artery.now split.rows.now }
+{
+    let (low, high) = parts(alloc, split.artery, area)?;
+    let mut memory = EntryMemory::new(alloc, split.artery)?;
+    enter_part(rt, alloc, split, &low, tableau, &mut memory)?;
+    enter_part(rt, alloc, split, &high, tableau, &mut memory)?;
+    assert_eq!(rt; solved(tableau, NO_LIMIT, 0), (NodeEnd::Optimal, 5, 5));
+    Ok(())
+}
+
+/// From the opening of a box to its best end, and from there to that of its low part, or of its high one.
 fn end_and_enter(
     rt: &impl Abort,
     alloc: Global,
     artery: &Artery,
     area: &SearchBox,
     tableau: &mut Tableau,
+    is_high: bool,
 ) -> Result<(), Fail>
     requires boxed { IsBoxOf artery.now area.now }
     requires first { IsFirstFor artery.now area.now tableau.old.table }
@@ -117,17 +151,37 @@ fn end_and_enter(
 {
     let (basis, pivots) = best_end(alloc, artery, area, tableau)?;
     assert!(rt; pivots == 3 && basis.as_slice() == BASIS.as_slice());
-    enter_low_part(rt, alloc, artery, area, tableau, basis.as_slice())
+    let rows = loaded(alloc, artery, area)?;
+    let split = Split {
+        artery,
+        rows: &rows,
+        basis: basis.as_slice(),
+    };
+    if is_high {
+        end_high(rt, alloc, split, area, tableau)
+    } else {
+        end_low(rt, alloc, split, area, tableau)
+    }
+}
+
+/// The same of the root of the worked artery.
+fn end_part(rt: &impl Abort, alloc: Global, is_high: bool) -> Result<(), Fail> {
+    let artery = artery(alloc, 50, Frac::whole(1))?;
+    let area = root(alloc, &artery)?;
+    let mut tableau = opening(alloc, &artery, &area)?;
+    end_and_enter(rt, alloc, &artery, &area, &mut tableau, is_high)
 }
 
 /// The whole box ends after 3 pivots, and from the entry of its basis the low part ends after 4.
 #[test]
 fn low_part_begins_at_the_end_of_the_whole(rt: HostRuntime) -> Result<(), Fail> {
-    let alloc = rt.alloc();
-    let artery = artery(alloc, 50, Frac::whole(1))?;
-    let area = root(alloc, &artery)?;
-    let mut tableau = opening(alloc, &artery, &area)?;
-    end_and_enter(&rt, alloc, &artery, &area, &mut tableau)
+    end_part(&rt, rt.alloc(), false)
+}
+
+/// The other part has the same basis, and its bounds alone are run through the turns that are remembered.
+#[test]
+fn high_part_is_entered_by_what_is_remembered(rt: HostRuntime) -> Result<(), Fail> {
+    end_part(&rt, rt.alloc(), true)
 }
 
 /// The numerator and the denominator of the least and of the most.
@@ -256,7 +310,9 @@ fn entered_again(
     requires unspent { tableau.old.spent ≡ false }
 {
     let (basis, pivots) = best_end(alloc, artery, area, tableau)?;
-    let (is_entry, _) = entered(alloc, tableau, artery, area, basis.as_slice())?;
+    let rows = loaded(alloc, artery, area)?;
+    let mut memory = EntryMemory::new(alloc, artery)?;
+    let is_entry = enter_remembering(tableau, &rows, artery, area, basis.as_slice(), &mut memory)?;
     let is_opening = is_opening(alloc, tableau, artery, area)?;
     Ok((pivots, is_entry, is_opening))
 }

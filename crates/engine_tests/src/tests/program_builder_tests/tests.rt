@@ -4,7 +4,7 @@ ghost use Rattle.std.specs.Prelude.{◌≡◌, IfOk, false, length};
 ghost use Rattle.progression.specs.Street.{count};
 ghost use Rattle.linear_theory.specs.{Boxes.{IsBoxOf}, Places.{width}};
 ghost use Rattle.simplex_theory.specs.DualSteps.{IsDual};
-ghost use Rattle.program_builder.specs.{Building.{IsMadeFor}, First.{IsFirstFor}};
+ghost use Rattle.program_builder.specs.{Building.{IsMadeFor, IsLoadedFor}, First.{IsFirstFor}};
 
 use crate::tests::solving::{solved, take_step};
 use artery_model::Artery;
@@ -13,7 +13,7 @@ use fraction_tableau::Tableau;
 use loop_rows::column_count;
 use named_row::{Place, Row, RowId};
 use narrow_fraction::Frac;
-use program_builder::{reset, start};
+use program_builder::{ArteryTable, make_loaded, make_tableau, reset_from, start};
 use search_box::SearchBox;
 use std::alloc::Global;
 use std::process::Abort;
@@ -34,7 +34,25 @@ pub fn root(alloc: Global, artery: &Artery) -> Result<SearchBox, Fail>
     Ok(area)
 }
 
-/// The opening of a box.
+/// The rows of a box as they are loaded, which serve every box of the artery.
+pub fn loaded(alloc: Global, artery: &Artery, area: &SearchBox) -> Result<Tableau, Fail>
+    requires { IsBoxOf artery.now area.now }
+    ensures { IfOk result (λ rows. IsLoadedFor artery.now rows) }
+{
+    let mut row = Row::zero(alloc, column_count(artery))?;
+    let rows = make_loaded(alloc, artery, area, &mut row)?;
+    Ok(rows)
+}
+
+/// A tableau with room for the rows of an artery's boxes.
+fn blank(alloc: Global, artery: &Artery) -> Result<Tableau, Fail>
+    ensures { IfOk result (λ tableau. IsMadeFor artery.now tableau) }
+{
+    let tableau = make_tableau(alloc, &ArteryTable { artery })?;
+    Ok(tableau)
+}
+
+/// The opening of a box, as a search makes it.
 pub fn opening(alloc: Global, artery: &Artery, area: &SearchBox) -> Result<Tableau, Fail>
     requires { IsBoxOf artery.now area.now }
     ensures first { IfOk result (λ tableau. IsFirstFor artery.now area.now tableau.table) }
@@ -42,7 +60,9 @@ pub fn opening(alloc: Global, artery: &Artery, area: &SearchBox) -> Result<Table
     ensures dual { IfOk result (λ tableau. IsDual tableau.table) }
     ensures unspent { IfOk result (λ tableau. tableau.spent ≡ false) }
 {
-    let tableau = start(alloc, artery, area)?;
+    let rows = loaded(alloc, artery, area)?;
+    let mut tableau = blank(alloc, artery)?;
+    reset_from(&mut tableau, &rows, artery, area);
     Ok(tableau)
 }
 
@@ -309,10 +329,11 @@ fn spend_and_reset(
     requires boxed { IsBoxOf artery.now area.now }
     requires made { IsMadeFor artery.now tableau.old }
 {
-    let mut room = far_row(alloc, artery)?;
-    let is_refused = is_refused(tableau, artery, &room);
+    let rows = loaded(alloc, artery, area)?;
+    let far = far_row(alloc, artery)?;
+    let is_refused = is_refused(tableau, artery, &far);
     let is_spent = tableau.is_spent();
-    reset(tableau, artery, area, &mut room);
+    reset_from(tableau, &rows, artery, area);
     Ok((is_refused, is_spent))
 }
 
@@ -354,5 +375,19 @@ fn reset_of_a_spent_tableau(rt: HostRuntime) -> Result<(), Fail> {
     assert!(rt; is_refused);
     assert!(rt; is_spent);
     assert!(rt; is_opening);
+    Ok(())
+}
+
+/// Whether the tableau that starts the root's box is the one that a search makes.
+fn is_started(alloc: Global) -> Result<bool, Fail> {
+    let artery = artery(alloc, 50, Frac::whole(1))?;
+    let area = root(alloc, &artery)?;
+    let tableau = start(alloc, &artery, &area)?;
+    is_root_opening(alloc, &tableau)
+}
+
+#[test]
+fn start_makes_the_same(rt: HostRuntime) -> Result<(), Fail> {
+    assert!(rt; is_started(rt.alloc())?);
     Ok(())
 }

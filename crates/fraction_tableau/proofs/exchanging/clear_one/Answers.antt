@@ -11,8 +11,10 @@ use Rattle.fraction_tableau.proofs.exchanging.clear_one.Goals as goal
 pub returns-then-is_zero-clause-outcome : goal.returns-then-is_zero-clause-outcome
 returns-then-is_zero-clause-outcome c =
     let e = get_or_default c.args.sparse_rows.now c.args.index c.index-sparse_rows-index.result [] c.requires.inside in
-    let z : number_in (get_or c.args.sparse_rows.now c.args.index []) c.args.pivot.now.place ≡ whole (pos 0) = ap (λ (t : List ℚ). number_in t c.args.pivot.now.place) (sym e) ∙ sym c.held-factor.ensures ∙ c.is_zero.ensures.0 c.if-is_zero.true in
-    sym (ap (λ o. attempt o tt) (cond-false (eqb c.args.index c.args.pivot.now.row) None _ (ne_eqb c.args.index c.args.pivot.now.row c.if-index-pivot.false) ∙ zero_row _ _ _ _ _ (c.requires.narrow.narrow c.args.index) z))
+    let z : number_in (get_or c.args.sparse_rows.now c.args.index []) c.args.pivot.now.place ≡ whole (pos 0) = ap (λ (t : List ℚ). number_in t c.args.pivot.now.place) (sym e)
+    ∙ sym c.held-factor.ensures ∙ c.is_zero.ensures.0 c.if-is_zero.true in
+    sym (ap (λ o. attempt o tt) (cond-false (eqb c.args.index c.args.pivot.now.row) None _ (ne_eqb c.args.index c.args.pivot.now.row c.if-index-pivot.false)
+    ∙ zero_row _ _ _ _ _ (c.requires.narrow.narrow c.args.index) z))
 
 pub clear-requires : goal.clear-requires
 clear-requires c = grind (arith, common_steps)
@@ -20,10 +22,12 @@ clear-requires c = grind (arith, common_steps)
 pub returns-then-is_zero-clause-cleared : goal.returns-then-is_zero-clause-cleared
 returns-then-is_zero-clause-cleared c =
     let e = get_or_default c.args.sparse_rows.now c.args.index c.index-sparse_rows-index.result [] c.requires.inside in
-    let z : number_in (get_or c.args.sparse_rows.now c.args.index []) c.args.pivot.now.place ≡ whole (pos 0) = ap (λ (t : List ℚ). number_in t c.args.pivot.now.place) (sym e) ∙ sym c.held-factor.ensures ∙ c.is_zero.ensures.0 c.if-is_zero.true in
+    let z : number_in (get_or c.args.sparse_rows.now c.args.index []) c.args.pivot.now.place ≡ whole (pos 0) = ap (λ (t : List ℚ). number_in t c.args.pivot.now.place) (sym e)
+    ∙ sym c.held-factor.ensures ∙ c.is_zero.ensures.0 c.if-is_zero.true in
     sym
     (cond-false (eqb c.args.index c.args.pivot.now.row) c.args.sparse_rows.now _ (ne_eqb c.args.index c.args.pivot.now.row c.if-index-pivot.false)
-    ∙ ap (set c.args.sparse_rows.now c.args.index) (sym (zero_row_kept c.args.pivot.now.place c.args.turned.now (get_or c.args.sparse_rows.now c.args.index []) c.requires.width (omega (arith, c.requires.width, c.requires.pivot.place)) z))
+    ∙ ap (set c.args.sparse_rows.now c.args.index)
+    (sym (zero_row_kept c.args.pivot.now.place c.args.turned.now (get_or c.args.sparse_rows.now c.args.index []) c.requires.width (omega (arith, c.requires.width, c.requires.pivot.place)) z))
     ∙ set-get_or c.args.sparse_rows.now c.args.index [])
 
 pub held-factor-requires : goal.held-factor-requires

@@ -48,7 +48,8 @@ loop-index-preserved c =
 
 pub loop-index-preserved-then-clear_whole : goal.loop-index-preserved-then-clear_whole
 loop-index-preserved-then-clear_whole c = record {
-  others = others_next _ _ _ _ _ _ _ _ c.loop-index.invariant.others (omega arith) (c.clear_whole.ensures.passed c.if-clear_whole.true) c.clear_whole.ensures.kept (c.clear_whole.ensures.cleared c.if-clear_whole.true) c.clear_whole.ensures.narrow;
+  others = others_next _ _ _ _ _ _ _ _ c.loop-index.invariant.others (omega arith) (c.clear_whole.ensures.passed c.if-clear_whole.true) c.clear_whole.ensures.kept
+      (c.clear_whole.ensures.cleared c.if-clear_whole.true) c.clear_whole.ensures.narrow;
   room = c.clear_whole.ensures.room ∙ c.loop-index.invariant.room;
   noted = noted (goal.at.loop-index-preserved-then-clear_whole c).After-is_zero;
   later = later (goal.at.loop-index-preserved-then-clear_whole c).After-is_zero;

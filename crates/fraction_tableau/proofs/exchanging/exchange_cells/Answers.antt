@@ -32,7 +32,8 @@ turning c =
       cell = p;
       held = held;
       passed = ap (turn_refusal c.args.at.row c.args.at.col) (sym again) ∙ (attempt_ok _ _ _ c.in_default.ensures.outcome).0;
-      own = ap (λ (u : List ℚ). number_in u c.args.at.col) held ∙ turned_at c.args.at.col (get_or c.args.sparse_rows.now c.args.at.row []) (omega (arith, wide, c.requires.place)) ∙ ap inverse_ℚ (sym p);
+      own = ap (λ (u : List ℚ). number_in u c.args.at.col) held ∙ turned_at c.args.at.col (get_or c.args.sparse_rows.now c.args.at.row []) (omega (arith, wide, c.requires.place))
+          ∙ ap inverse_ℚ (sym p);
     }
 
 pivoted : (c : In_default) → IsPivoted c.turn.new.self c.args.at.col c.cell.result
@@ -49,7 +50,8 @@ pivoted c =
 pub returns-in-Err-clause-outcome : goal.returns-in-Err-clause-outcome
 returns-in-Err-clause-outcome c =
     let again = get_or_default c.args.sparse_rows.now c.args.at.row c.index-sparse_rows-row-2.result [] c.requires.inside in
-    sym (ap (λ o. attempt o tt) (pivot_first c.args.at.row c.args.at.col c.args.sparse_rows.now c.args.goal.now c.in-Err.wide (ap (turn_refusal c.args.at.row c.args.at.col) (sym again) ∙ attempt_err _ _ _ c.in-Err.ensures.outcome)))
+    sym (ap (λ o. attempt o tt) (pivot_first c.args.at.row c.args.at.col c.args.sparse_rows.now c.args.goal.now c.in-Err.wide
+    (ap (turn_refusal c.args.at.row c.args.at.col) (sym again) ∙ attempt_err _ _ _ c.in-Err.ensures.outcome)))
 
 pub clear_goal-requires-clause-pivot : goal.clear_goal-requires-clause-pivot
 clear_goal-requires-clause-pivot c = pivoted (goal.at.clear_goal-requires-clause-pivot c).In_default
@@ -66,7 +68,8 @@ pub returns-in-Err-clear_others-clause-outcome : goal.returns-in-Err-clear_other
 returns-in-Err-clear_others-clause-outcome c =
     let t = turning (goal.at.returns-in-Err-clear_others-clause-outcome c).In_default in
     let q = (attempt_ok _ _ _ c.in_default-clear_goal.ensures.cleared.outcome).0 in
-    sym (ap (λ o. attempt o tt) (pivot_third c.args.at.row c.args.at.col c.args.sparse_rows.now c.args.goal.now c.turn.new.self c.cell.result t.held t.cell t.passed q ∙ attempt_err _ _ _ c.in-Err-clear_others.ensures.outcome))
+    sym (ap (λ o. attempt o tt) (pivot_third c.args.at.row c.args.at.col c.args.sparse_rows.now c.args.goal.now c.turn.new.self c.cell.result t.held t.cell t.passed q
+    ∙ attempt_err _ _ _ c.in-Err-clear_others.ensures.outcome))
 
 pub returns-in-Err-clear_others-clause-kept : goal.returns-in-Err-clear_others-clause-kept
 returns-in-Err-clear_others-clause-kept c = grind (arith, common_steps)
@@ -75,7 +78,8 @@ pub returns-clause-outcome : goal.returns-clause-outcome
 returns-clause-outcome c =
     let t = turning (goal.at.returns-clause-outcome c).In_default in
     let q = (attempt_ok _ _ _ c.in_default-clear_goal.ensures.cleared.outcome).0 in
-    sym (ap (λ o. attempt o tt) (pivot_third c.args.at.row c.args.at.col c.args.sparse_rows.now c.args.goal.now c.turn.new.self c.cell.result t.held t.cell t.passed q ∙ (attempt_ok _ _ _ c.in_default-clear_others.ensures.outcome).0))
+    sym (ap (λ o. attempt o tt) (pivot_third c.args.at.row c.args.at.col c.args.sparse_rows.now c.args.goal.now c.turn.new.self c.cell.result t.held t.cell t.passed q
+    ∙ (attempt_ok _ _ _ c.in_default-clear_others.ensures.outcome).0))
 
 pub returns-clause-rows : goal.returns-clause-rows
 returns-clause-rows c =
@@ -83,7 +87,8 @@ returns-clause-rows c =
     let now : List (List ℚ) = c.clear_others.new.sparse_rows in
     let many : length now ≡ length c.args.sparse_rows.now = c.clear_others.auto.sparse_rows in
     ap (set now c.args.at.row) c.swap.ensures.x_after
-    ∙ rows_done c.args.at.row c.args.at.col c.args.sparse_rows.now (set now c.args.at.row c.turn.new.self) c.turn.new.self t.held c.requires.inside (length-set now c.args.at.row c.turn.new.self ∙ many)
+    ∙ rows_done c.args.at.row c.args.at.col c.args.sparse_rows.now (set now c.args.at.row c.turn.new.self) c.turn.new.self t.held c.requires.inside
+    (length-set now c.args.at.row c.turn.new.self ∙ many)
     (get_or-set_same now c.args.at.row c.turn.new.self [] (omega (arith, c.requires.inside, many)))
     (λ k l n. get_or-set_other now c.args.at.row k c.turn.new.self [] n ∙ c.in_default-clear_others.ensures.cleared k l n)
 

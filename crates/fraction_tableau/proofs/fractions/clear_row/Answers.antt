@@ -22,7 +22,8 @@ merge-requires-clause-own c =
 pub returns-in-Err-clause-outcome : goal.returns-in-Err-clause-outcome
 returns-in-Err-clause-outcome c =
     let e = c.args.elimination.now in
-    c.refused.ensures.outcome ∙ sym (ap (λ o. attempt o tt) (clear_stopped e.number e.place c.args.turned.now c.args.row.now e.pivot (length c.args.cells.now) c.in-Err.wide c.requires.width c.in-Err.ensures.refused))
+    c.refused.ensures.outcome ∙ sym (ap (λ o. attempt o tt) (clear_stopped e.number e.place c.args.turned.now c.args.row.now e.pivot (length c.args.cells.now)
+    c.in-Err.wide c.requires.width c.in-Err.ensures.refused))
 
 pub returns-in-Err-clause-line : goal.returns-in-Err-clause-line
 returns-in-Err-clause-line c =
@@ -37,11 +38,15 @@ returns-in-Err-cleared_number-clause-outcome c =
     let factor = c.fraction-factor.result in
     let bx = c.bound.ensures ∙ ap (number_in d) (same_width _ _ _ c.requires.width refl) in
     let by = c.bound-2.ensures ∙ ap (number_in e) (same_width _ _ _ c.requires.width c.requires.widths) in
-    let some = subst (λ n. earlier (refused Mul factor c.bound-2.result i n) (refused Sub c.bound.result (factor *ℚ c.bound-2.result) i n) ≡ Some c.in-Err-cleared_number.wide) c.merge.auto.cells (attempt_err _ _ _ c.in-Err-cleared_number.ensures.outcome) in
-    c.refused-in-Err-cleared_number.ensures.outcome ∙ sym (ap (λ o. attempt o tt) (clear_bound i c.args.elimination.now.place e d c.args.elimination.now.pivot w factor c.bound.result c.bound-2.result c.in-Err-cleared_number.wide c.requires.width (omega (arith, c.requires.width, c.requires.place)) (c.fraction-factor.ensures.value ∙ c.requires.factor) bx by c.in-Ok.ensures.passed some))
+    let some = subst (λ n. earlier (refused Mul factor c.bound-2.result i n) (refused Sub c.bound.result (factor *ℚ c.bound-2.result) i n) ≡ Some c.in-Err-cleared_number.wide)
+    c.merge.auto.cells (attempt_err _ _ _ c.in-Err-cleared_number.ensures.outcome) in
+    c.refused-in-Err-cleared_number.ensures.outcome
+    ∙ sym (ap (λ o. attempt o tt) (clear_bound i c.args.elimination.now.place e d c.args.elimination.now.pivot w factor c.bound.result c.bound-2.result
+    c.in-Err-cleared_number.wide c.requires.width (omega (arith, c.requires.width, c.requires.place)) (c.fraction-factor.ensures.value ∙ c.requires.factor) bx by c.in-Ok.ensures.passed some))
 
 -- where the cells and the bound are made, the quotient's operation is the only one that may be refused
-ended : (c : In-Ok-cleared_number) → clear_refusal c.args.elimination.now.number c.args.elimination.now.place c.args.turned.now c.args.row.now c.args.elimination.now.pivot ≡ refused Div c.fraction-factor.result c.args.elimination.now.pivot c.args.elimination.now.number c.args.elimination.now.place
+ended : (c : In-Ok-cleared_number) → clear_refusal c.args.elimination.now.number c.args.elimination.now.place c.args.turned.now c.args.row.now
+    c.args.elimination.now.pivot ≡ refused Div c.fraction-factor.result c.args.elimination.now.pivot c.args.elimination.now.number c.args.elimination.now.place
 ended c =
     let d = c.args.row.now in
     let e = c.args.turned.now in
@@ -49,10 +54,14 @@ ended c =
     let factor = c.fraction-factor.result in
     let o = attempt_ok _ _ _ c.in-Ok-cleared_number.ensures.outcome in
     let none = subst (λ n. earlier (refused Mul factor c.bound-2.result i n) (refused Sub c.bound.result (factor *ℚ c.bound-2.result) i n) ≡ None) c.merge.auto.cells o.0 in
-    clear_ended i c.args.elimination.now.place e d c.args.elimination.now.pivot (length c.args.cells.now) factor c.bound.result c.bound-2.result c.requires.width (omega (arith, c.requires.width, c.requires.place)) (c.fraction-factor.ensures.value ∙ c.requires.factor) (c.bound.ensures ∙ ap (number_in d) (same_width _ _ _ c.requires.width refl)) (c.bound-2.ensures ∙ ap (number_in e) (same_width _ _ _ c.requires.width c.requires.widths)) c.in-Ok.ensures.passed none
+    clear_ended i c.args.elimination.now.place e d c.args.elimination.now.pivot (length c.args.cells.now) factor c.bound.result c.bound-2.result
+    c.requires.width (omega (arith, c.requires.width, c.requires.place)) (c.fraction-factor.ensures.value ∙ c.requires.factor) (c.bound.ensures
+    ∙ ap (number_in d) (same_width _ _ _ c.requires.width refl)) (c.bound-2.ensures ∙ ap (number_in e) (same_width _ _ _ c.requires.width c.requires.widths)) c.in-Ok.ensures.passed none
 
 -- the row that is made
-made : (c : In-Ok-quotient) → (IsSparse (length c.args.cells.now) c.in-Ok.count (take c.in-Ok.count c.merge.new.cells) × (dense_row (length c.args.cells.now) (take c.in-Ok.count c.merge.new.cells) c.in-Ok-cleared_number.bound ≡ cleared c.args.elimination.now.place c.args.turned.now c.args.row.now)) × IsNarrow (cleared c.args.elimination.now.place c.args.turned.now c.args.row.now)
+made : (c : In-Ok-quotient) → (IsSparse (length c.args.cells.now) c.in-Ok.count (take c.in-Ok.count c.merge.new.cells)
+    × (dense_row (length c.args.cells.now) (take c.in-Ok.count c.merge.new.cells) c.in-Ok-cleared_number.bound ≡ cleared c.args.elimination.now.place c.args.turned.now c.args.row.now))
+    × IsNarrow (cleared c.args.elimination.now.place c.args.turned.now c.args.row.now)
 made c =
     let w = length c.args.cells.now in
     let d = c.args.row.now in
@@ -63,14 +72,17 @@ made c =
     let j : place < w = omega (arith, c.requires.width, c.requires.place) in
     let q = attempt_ok _ _ _ (sym c.in-Ok-quotient.is ∙ c.over-quotient.ensures.outcome) in
     let v : c.of_fraction.result ≡ neg_ℚ (number_in d place *ℚ inverse_ℚ pivot) =
-    c.of_fraction.ensures ∙ subst (λ (t : Result ℚ WideCell). IfOk t (λ value. c.negated_or.result ≡ neg_ℚ value)) c.in-Ok-quotient.is c.negated_or.ensures.ok ∙ ap neg_ℚ (q.1 ∙ ap (λ t. t *ℚ inverse_ℚ pivot) is) in
+    c.of_fraction.ensures ∙ subst (λ (t : Result ℚ WideCell). IfOk t (λ value. c.negated_or.result ≡ neg_ℚ value)) c.in-Ok-quotient.is c.negated_or.ensures.ok
+    ∙ ap neg_ℚ (q.1 ∙ ap (λ t. t *ℚ inverse_ℚ pivot) is) in
     let l = length-cleared place e d (sym c.requires.widths) ∙ c.requires.width in
     let f : ℕ → ℚ = merged_at place c.of_fraction.result e d in
     let at : (m : ℕ) → m < w → f m ≡ number_in (cleared place e d) m = λ m h. cleared_is place c.of_fraction.result pivot e d m (omega (arith, j, c.requires.width)) c.requires.own v in
     let bx = c.bound.ensures ∙ ap (number_in d) (same_width _ _ _ c.requires.width refl) in
     let by = c.bound-2.ensures ∙ ap (number_in e) (same_width _ _ _ c.requires.width c.requires.widths) in
-    let b = cleared_last place w e d c.in-Ok-cleared_number.bound c.fraction-factor.result c.bound.result c.bound-2.result j is bx by (attempt_ok _ _ _ c.in-Ok-cleared_number.ensures.outcome).1 in
-    (row_made (cleared place e d) w c.in-Ok.count f _ c.in-Ok-cleared_number.bound l c.in-Ok.ensures.count c.in-Ok.ensures.cells at b, sparse_narrow (cleared place e d) w f c.in-Ok-cleared_number.bound l at b c.in-Ok.ensures.fits c.in-Ok-cleared_number.ensures.fits)
+    let b = cleared_last place w e d c.in-Ok-cleared_number.bound c.fraction-factor.result c.bound.result c.bound-2.result j is bx by (attempt_ok _ _ _ c.in-Ok-cleared_number.ensures.outcome).1 in (
+      row_made (cleared place e d) w c.in-Ok.count f _ c.in-Ok-cleared_number.bound l c.in-Ok.ensures.count c.in-Ok.ensures.cells at b,
+      sparse_narrow (cleared place e d) w f c.in-Ok-cleared_number.bound l at b c.in-Ok.ensures.fits c.in-Ok-cleared_number.ensures.fits,
+    )
 
 pub returns-in-Err-cleared_number-clause-line : goal.returns-in-Err-cleared_number-clause-line
 returns-in-Err-cleared_number-clause-line c =

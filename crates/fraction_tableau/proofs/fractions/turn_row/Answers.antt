@@ -31,7 +31,9 @@ returns-in-Err-turn_cells-clause-outcome c =
     let place = c.args.place in
     let pivot = c.cell-pivot.result in
     let first = (attempt_ok _ _ _ c.in-Ok.ensures.outcome).0 in
-    c.refused-in-Err-turn_cells.ensures.outcome ∙ sym (ap (λ o. attempt o tt) (turn_stopped c.args.number place d w c.whole.result pivot c.in-Err-turn_cells.wide c.requires.width c.whole.ensures c.cell-pivot.ensures first c.in-Err-turn_cells.ensures.refused))
+    c.refused-in-Err-turn_cells.ensures.outcome
+    ∙ sym (ap (λ o. attempt o tt) (turn_stopped c.args.number place d w c.whole.result pivot c.in-Err-turn_cells.wide c.requires.width c.whole.ensures
+    c.cell-pivot.ensures first c.in-Err-turn_cells.ensures.refused))
 
 pub returns-in-Err-turn_cells-clause-line : goal.returns-in-Err-turn_cells-clause-line
 returns-in-Err-turn_cells-clause-line c =
@@ -42,10 +44,13 @@ ended : (c : After-bound) → turn_refusal c.args.number c.args.place c.args.row
 ended c =
     let first = (attempt_ok _ _ _ c.in-Ok.ensures.outcome).0 in
     let bx = c.bound.ensures ∙ ap (number_in c.args.row.now) (same_width _ _ _ c.requires.width refl) in
-    turn_ended c.args.number c.args.place c.args.row.now (length c.args.cells.now) c.whole.result c.cell-pivot.result c.bound.result c.requires.width (omega (arith, c.requires.width, c.requires.place)) c.whole.ensures c.cell-pivot.ensures bx first c.in-Ok-turn_cells.ensures.passed
+    turn_ended c.args.number c.args.place c.args.row.now (length c.args.cells.now) c.whole.result c.cell-pivot.result c.bound.result c.requires.width
+    (omega (arith, c.requires.width, c.requires.place)) c.whole.ensures c.cell-pivot.ensures bx first c.in-Ok-turn_cells.ensures.passed
 
 -- the row that is made
-made : (c : In-Ok-over) → (IsSparse (length c.args.cells.now) c.in-Ok-turn_cells.count (take c.in-Ok-turn_cells.count c.turn_cells.new.cells) × (dense_row (length c.args.cells.now) (take c.in-Ok-turn_cells.count c.turn_cells.new.cells) c.in-Ok-over.bound ≡ turned c.args.place c.args.row.now)) × IsNarrow (turned c.args.place c.args.row.now)
+made : (c : In-Ok-over) → (IsSparse (length c.args.cells.now) c.in-Ok-turn_cells.count (take c.in-Ok-turn_cells.count c.turn_cells.new.cells)
+    × (dense_row (length c.args.cells.now) (take c.in-Ok-turn_cells.count c.turn_cells.new.cells) c.in-Ok-over.bound ≡ turned c.args.place c.args.row.now))
+    × IsNarrow (turned c.args.place c.args.row.now)
 made c =
     let w = length c.args.cells.now in
     let d = c.args.row.now in
@@ -53,12 +58,15 @@ made c =
     let pivot = c.cell-pivot.result in
     let bx = c.bound.ensures ∙ ap (number_in d) (same_width _ _ _ c.requires.width refl) in
     let j : place < w = omega (arith, c.requires.width, c.requires.place) in
-    let v : c.of_fraction.result ≡ inverse_ℚ (number_in d place) = c.of_fraction.ensures ∙ (attempt_ok _ _ _ c.in-Ok.ensures.outcome).1 ∙ ap (λ t. t *ℚ inverse_ℚ pivot) c.whole.ensures ∙ one-*ℚ _ ∙ ap inverse_ℚ c.cell-pivot.ensures in
+    let v : c.of_fraction.result ≡ inverse_ℚ (number_in d place) = c.of_fraction.ensures ∙ (attempt_ok _ _ _ c.in-Ok.ensures.outcome).1
+    ∙ ap (λ t. t *ℚ inverse_ℚ pivot) c.whole.ensures ∙ one-*ℚ _ ∙ ap inverse_ℚ c.cell-pivot.ensures in
     let l = length-turned place d ∙ c.requires.width in
     let f : ℕ → ℚ = turned_cell place c.of_fraction.result d in
     let at : (m : ℕ) → m < w → f m ≡ number_in (turned place d) m = λ m h. turned_number place c.of_fraction.result d m (omega (arith, j, c.requires.width)) v in
-    let b = turned_last place w d c.in-Ok-over.bound c.bound.result pivot j c.cell-pivot.ensures bx (attempt_ok _ _ _ c.in-Ok-over.ensures.outcome).1 in
-    (row_made (turned place d) w c.in-Ok-turn_cells.count f _ c.in-Ok-over.bound l c.in-Ok-turn_cells.ensures.count c.in-Ok-turn_cells.ensures.cells at b, sparse_narrow (turned place d) w f c.in-Ok-over.bound l at b c.in-Ok-turn_cells.ensures.fits c.in-Ok-over.ensures.fits)
+    let b = turned_last place w d c.in-Ok-over.bound c.bound.result pivot j c.cell-pivot.ensures bx (attempt_ok _ _ _ c.in-Ok-over.ensures.outcome).1 in (
+      row_made (turned place d) w c.in-Ok-turn_cells.count f _ c.in-Ok-over.bound l c.in-Ok-turn_cells.ensures.count c.in-Ok-turn_cells.ensures.cells at b,
+      sparse_narrow (turned place d) w f c.in-Ok-over.bound l at b c.in-Ok-turn_cells.ensures.fits c.in-Ok-over.ensures.fits,
+    )
 
 pub returns-in-Ok-over-clause-outcome : goal.returns-in-Ok-over-clause-outcome
 returns-in-Ok-over-clause-outcome c =

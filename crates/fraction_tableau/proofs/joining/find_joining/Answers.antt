@@ -21,7 +21,8 @@ pub returns-clause-joining : goal.returns-clause-joining
 returns-clause-joining c =
     let u = simp (to_z-of_z, c.ranges.factor) at c.unsigned_abs.ensures.value in
     let e = rw u at c.word_divisor-shared.ensures.value in
-    let t : c.word_quotient-times.result * c.word_divisor-shared.result ≡ c.args.turned.denominator = rw (c.word_quotient-times.ensures, e) (right_share (unsigned_abs c.args.factor) c.args.turned.denominator c.requires.turned_above) in
+    let t : c.word_quotient-times.result * c.word_divisor-shared.result ≡ c.args.turned.denominator =
+    rw (c.word_quotient-times.ensures, e) (right_share (unsigned_abs c.args.factor) c.args.turned.denominator c.requires.turned_above) in
     let m = c.unsigned_abs-2.ensures.value in
     record {
       from = refl;

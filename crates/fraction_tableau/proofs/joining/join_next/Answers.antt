@@ -18,7 +18,8 @@ next : (c : After-index-others-index) → IsNext (number_in c.args.turned.now) c
 next c =
     let f = number_in c.args.turned.now in
     let s = c.kept-others.ensures ∙ ap (kept_below f) (same_width _ _ _ c.requires.width c.requires.widths) in
-    next_in f c.args.done.below (length c.args.cells.now) c.args.index c.kept-others.result.now c.index-others-index.result s c.index-others-index.is c.requires.joined.inside c.requires.index (subst (λ t. c.args.index < length t) (sym s) c.requires.inside)
+    next_in f c.args.done.below (length c.args.cells.now) c.args.index c.kept-others.result.now c.index-others-index.result s c.index-others-index.is
+    c.requires.joined.inside c.requires.index (subst (λ t. c.args.index < length t) (sym s) c.requires.inside)
 
 pub keep_before-done-requires-clause-place : goal.keep_before-done-requires-clause-place
 keep_before-done-requires-clause-place c =
@@ -89,9 +90,11 @@ returns-clause-joined c =
     ∙ ap (λ u. cond (eqb k.place j.place) (whole (pos 0)) (number_in d k.place) +ℚ neg_ℚ (u *ℚ k.cell)) c.requires.factor
     ∙ ap (λ u. cond (eqb k.place j.place) (whole (pos 0)) (number_in d k.place) +ℚ neg_ℚ (number_in d j.place *ℚ u)) (sym x.is)
     ∙ cleared_number j.place k.place e d (omega (arith, c.requires.width, c.requires.place)) in
-    joined_next t d c.keep_before-done.new.cells c.put-made.new.cells c.take_numerator-own.result.taken c.keep_before-done.result.made c.put-made.result c.with_mark_where.result (record { place = k.place; cell = c.joined-cell.result }) c.put-made.auto.cells (omega (arith, c.keep_before-done.auto.cells))
+    joined_next t d c.keep_before-done.new.cells c.put-made.new.cells c.take_numerator-own.result.taken c.keep_before-done.result.made c.put-made.result
+    c.with_mark_where.result (record { place = k.place; cell = c.joined-cell.result }) c.put-made.auto.cells (omega (arith, c.keep_before-done.auto.cells))
     c.take_numerator-own.ensures.taken c.keep_before-done.ensures.made n v c.put-made.ensures.count c.put-made.ensures.cells
-    (subst (AreMarked c.with_mark_where.result) (sym c.put-made.ensures.cells) (marked_where _ _ _ _ _ _ _ (c.keep_before-done.ensures.marked c.requires.joined.marked) c.put-made.ensures.count (λ l. c.with_mark_where.ensures.set (lt-ltb _ _ l)) c.with_mark_where.ensures.others (λ l. c.with_mark_where.ensures.same (le-ltb _ _ l))))
+    (subst (AreMarked c.with_mark_where.result) (sym c.put-made.ensures.cells) (marked_where _ _ _ _ _ _ _ (c.keep_before-done.ensures.marked c.requires.joined.marked)
+    c.put-made.ensures.count (λ l. c.with_mark_where.ensures.set (lt-ltb _ _ l)) c.with_mark_where.ensures.others (λ l. c.with_mark_where.ensures.same (le-ltb _ _ l))))
 
 pub returns-clause-index : goal.returns-clause-index
 returns-clause-index c =

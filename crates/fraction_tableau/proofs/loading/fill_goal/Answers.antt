@@ -9,4 +9,6 @@ use Rattle.fraction_tableau.proofs.loading.fill_goal.Goals as goal
 pub loop-place-preserved : goal.loop-place-preserved
 unfolding at_place
 loop-place-preserved c =
-    filled_next (λ m. neg_ℚ (number_in c.args.from.now.coefs m)) _ _ _ _ _ _ _ c.loop-place.invariant c.put-made.auto.cells (c.of_fraction-cell.ensures ∙ c.fitting-cell.ensures.same ∙ c.neg.ensures ∙ ap neg_ℚ c.get.ensures) (subst FitsFrac (sym c.of_fraction-cell.ensures) c.fitting-cell.ensures.fits) c.put-made.ensures.count c.put-made.ensures.cells
+    filled_next (λ m. neg_ℚ (number_in c.args.from.now.coefs m)) _ _ _ _ _ _ _ c.loop-place.invariant c.put-made.auto.cells (c.of_fraction-cell.ensures
+    ∙ c.fitting-cell.ensures.same ∙ c.neg.ensures ∙ ap neg_ℚ c.get.ensures) (subst FitsFrac (sym c.of_fraction-cell.ensures) c.fitting-cell.ensures.fits)
+    c.put-made.ensures.count c.put-made.ensures.cells

@@ -19,15 +19,18 @@ pub returns-clause-passed : goal.returns-clause-passed
 returns-clause-passed c =
     let t = c.loop-index.invariant.merged in
     let below = t.inside in
-    merge_passed c.args.clearing.now.number c.args.clearing.now.own.place c.args.turned.now c.args.row.now c.loop-index.done.below (length c.args.cells.now) c.requires.narrow (omega (arith, c.loop-index.auto.cells)) t.passed (quiet (goal.at.returns-clause-passed c).After-loop-index)
+    merge_passed c.args.clearing.now.number c.args.clearing.now.own.place c.args.turned.now c.args.row.now c.loop-index.done.below (length c.args.cells.now)
+    c.requires.narrow (omega (arith, c.loop-index.auto.cells)) t.passed (quiet (goal.at.returns-clause-passed c).After-loop-index)
 
 pub returns-clause-cells : goal.returns-clause-cells
 returns-clause-cells c =
     let own = c.args.clearing.now.own in
     let z = quiet (goal.at.returns-clause-cells c).After-loop-index in
-    c.keep_before.ensures.cells (merged_at own.place own.cell c.args.turned.now c.args.row.now) (λ m a b. quiet_number own.place own.cell c.args.turned.now c.args.row.now m (z m a (omega arith)) c.requires.own) c.loop-index.invariant.merged.merged
+    c.keep_before.ensures.cells (merged_at own.place own.cell c.args.turned.now c.args.row.now) (λ m a b. quiet_number own.place own.cell c.args.turned.now
+    c.args.row.now m (z m a (omega arith)) c.requires.own) c.loop-index.invariant.merged.merged
 
 pub returns-clause-fits : goal.returns-clause-fits
 returns-clause-fits c =
     let own = c.args.clearing.now.own in
-    merge_fits own.place own.cell c.args.turned.now c.args.row.now c.loop-index.done.below (length c.args.cells.now) c.requires.narrow c.requires.own c.loop-index.invariant.merged.fits (quiet (goal.at.returns-clause-fits c).After-loop-index)
+    merge_fits own.place own.cell c.args.turned.now c.args.row.now c.loop-index.done.below (length c.args.cells.now) c.requires.narrow c.requires.own
+    c.loop-index.invariant.merged.fits (quiet (goal.at.returns-clause-fits c).After-loop-index)

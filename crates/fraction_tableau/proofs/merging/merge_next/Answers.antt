@@ -13,7 +13,8 @@ next : (c : After-index-others-index) → IsNext (number_in c.args.turned.now) c
 next c =
     let f = number_in c.args.turned.now in
     let s = c.kept-others.ensures ∙ ap (kept_below f) (same_width _ _ _ c.requires.width c.requires.widths) in
-    next_in f c.args.done.below (length c.args.cells.now) c.args.index c.kept-others.result.now c.index-others-index.result s c.index-others-index.is c.requires.merged.inside c.requires.index (subst (λ t. c.args.index < length t) (sym s) c.requires.inside)
+    next_in f c.args.done.below (length c.args.cells.now) c.args.index c.kept-others.result.now c.index-others-index.result s c.index-others-index.is
+    c.requires.merged.inside c.requires.index (subst (λ t. c.args.index < length t) (sym s) c.requires.inside)
 
 pub keep_before-done-requires-clause-place : goal.keep_before-done-requires-clause-place
 keep_before-done-requires-clause-place c =
@@ -68,10 +69,14 @@ returns-clause-merged c =
     let f = c.args.clearing.now.factor in
     let o = attempt_ok _ _ _ c.in-Ok.ensures.outcome in
     let y = x.inside in
-    merge_next_is i j v e d c.keep_before-done.new.cells c.put-made.new.cells c.take_at-own.result.taken c.keep_before-done.result.made c.put-made.result c.keep_before-done.result.marks k c.of_fraction.result c.put-made.auto.cells (omega (arith, c.keep_before-done.auto.cells))
-    c.take_at-own.ensures.taken c.keep_before-done.ensures.made (c.keep_before-done.ensures.cells (merged_at j v e d) (λ m a b. quiet_number j v e d m (x.zeros m a b) c.requires.own) c.requires.merged.merged)
-    (c.of_fraction.ensures ∙ o.1 ∙ same_number j v e d k c.fraction.result f c.requires.factor x.is (c.fraction.ensures.value ∙ c.take_at-own.ensures.cell)) c.put-made.ensures.count c.put-made.ensures.cells
-    (merge_passed i j e d c.args.done.below k.place c.requires.narrow x.after c.requires.merged.passed x.zeros) (sym (same_refusal i j e d k c.fraction.result f c.requires.factor x.is (c.fraction.ensures.value ∙ c.take_at-own.ensures.cell)) ∙ o.0)
+    merge_next_is i j v e d c.keep_before-done.new.cells c.put-made.new.cells c.take_at-own.result.taken c.keep_before-done.result.made c.put-made.result
+    c.keep_before-done.result.marks k c.of_fraction.result c.put-made.auto.cells (omega (arith, c.keep_before-done.auto.cells))
+    c.take_at-own.ensures.taken c.keep_before-done.ensures.made (c.keep_before-done.ensures.cells (merged_at j v e d) (λ m a b. quiet_number j v e d m (x.zeros m a b) c.requires.own)
+    c.requires.merged.merged)
+    (c.of_fraction.ensures ∙ o.1 ∙ same_number j v e d k c.fraction.result f c.requires.factor x.is (c.fraction.ensures.value ∙ c.take_at-own.ensures.cell))
+    c.put-made.ensures.count c.put-made.ensures.cells
+    (merge_passed i j e d c.args.done.below k.place c.requires.narrow x.after c.requires.merged.passed x.zeros)
+    (sym (same_refusal i j e d k c.fraction.result f c.requires.factor x.is (c.fraction.ensures.value ∙ c.take_at-own.ensures.cell)) ∙ o.0)
     (merge_fits j v e d c.args.done.below k.place c.requires.narrow c.requires.own c.requires.merged.fits x.zeros) (subst FitsFrac (sym c.of_fraction.ensures) c.in-Ok.ensures.fits)
 
 pub returns-clause-index : goal.returns-clause-index

@@ -32,7 +32,8 @@ loop-index-preserved c =
     let x = next (goal.at.loop-index-preserved c).After-index-kept-index in
     let n : number_in d c.args.own.now.place ≡ whole (pos 0) → ⊥ = λ e. c.requires.pivot (c.requires.is ∙ e) in
     let o = attempt_ok _ _ _ c.in-Ok.ensures.outcome in
-    turning_next c.args.number c.args.own.now.place c.args.own.now.cell d (length c.args.cells.now) _ c.put-made.new.cells c.loop-index.index c.loop-index.made c.put-made.result k c.of_fraction.result n c.loop-index.invariant x c.put-made.auto.cells
+    turning_next c.args.number c.args.own.now.place c.args.own.now.cell d (length c.args.cells.now) _ c.put-made.new.cells c.loop-index.index
+    c.loop-index.made c.put-made.result k c.of_fraction.result n c.loop-index.invariant x c.put-made.auto.cells
     (c.of_fraction.ensures ∙ o.1 ∙ turn_number_same c.args.own.now.place c.args.own.now.cell d k c.args.pivot c.requires.is x.is) c.put-made.ensures.count c.put-made.ensures.cells
     (sym (turn_refusal_same c.args.number c.args.own.now.place d k c.args.pivot c.requires.is x.is) ∙ o.0) (subst FitsFrac (sym c.of_fraction.ensures) c.in-Ok.ensures.fits)
 

@@ -34,7 +34,8 @@ loop-index-preserved c =
     let x = next (goal.at.loop-index-preserved c).After-index-kept-index in
     let o = subst (IsOver s.row.denominator s.row.most) x.is (c.requires.row.numbers k.place) in
     let y = c.turned-cell.ensures ∙ ap (λ p. cond (eqb k.place s.place) (inverse_ℚ p) (k.cell *ℚ inverse_ℚ p)) c.requires.pivot ∙ ap (λ u. cond (eqb k.place s.place) v (u *ℚ v)) (sym x.is) in
-    turning_next 0 s.place v d (length c.args.cells.now) _ c.put-made.new.cells c.loop-index.index c.loop-index.made c.put-made.result k c.turned-cell.result n c.loop-index.invariant x c.put-made.auto.cells y c.put-made.ensures.count c.put-made.ensures.cells
+    turning_next 0 s.place v d (length c.args.cells.now) _ c.put-made.new.cells c.loop-index.index c.loop-index.made c.put-made.result k c.turned-cell.result
+    n c.loop-index.invariant x c.put-made.auto.cells y c.put-made.ensures.count c.put-made.ensures.cells
     (whole_passes 0 s.place s d k.place c.requires.row n) (subst FitsFrac (sym c.turned-cell.ensures) (whole_fits s d k.place (eqb k.place s.place) k.cell c.requires.turning o))
 
 pub returns-clause-cells : goal.returns-clause-cells

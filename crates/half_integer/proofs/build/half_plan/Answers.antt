@@ -7,5 +7,6 @@ returns-in-None c =
 
 pub returns-in_ok-built-in-Some : goal.returns-in_ok-built-in-Some
 returns-in_ok-built-in-Some c =
-    half_is c.args.artery.now c.args.timing.now c.in_ok-built-in-Some.field-0 c.unit-unit.result c.in-Some.band c.head-head.ensures.valid c.unit-unit.ensures.value c.unit-unit.ensures.least c.requires.even
+    half_is c.args.artery.now c.args.timing.now c.in_ok-built-in-Some.field-0 c.unit-unit.result c.in-Some.band c.head-head.ensures.valid
+    c.unit-unit.ensures.value c.unit-unit.ensures.least c.requires.even
     c.requires.shape c.in-Some.ensures c.in_ok-built-in-Some.ensures

@@ -12,4 +12,9 @@ returns c =
     let said = rw c.as_slice-nodes.ensures.value at c.check_parts.ensures in
     let street = street_of c.args.artery.now c.known_valid.ensures in
     rw (← c.certificate.view_is)
-    (record { accepted = said.accepted; holds = on_ok_weaker c.check_parts.result (λ (h : IsLinkAccepted c.args.artery.now w). links_accepted_holds c.args.artery.now w street h) said.accepted; first = said.first })
+    (record {
+      accepted = said.accepted;
+      holds = on_ok_weaker c.check_parts.result (λ (h : IsLinkAccepted c.args.artery.now w). links_accepted_holds c.args.artery.now w street h)
+          said.accepted;
+      first = said.first;
+    })

@@ -7,7 +7,8 @@ use Rattle.link_proof.proofs.LinkTexts.{links_again}
 use Rattle.link_proof.proofs.writing.write_links.Goals as goal
 
 pub write_named-requires : goal.write_named-requires
-write_named-requires c = subst (λ (ns : List CertNode). IsLinkCertificate (warrant_of c.certificate.inside.claim c.certificate.inside.timing ns)) (sym c.as_slice-nodes.ensures.value) c.certificate.invariant
+write_named-requires c = subst (λ (ns : List CertNode). IsLinkCertificate (warrant_of c.certificate.inside.claim c.certificate.inside.timing ns))
+    (sym c.as_slice-nodes.ensures.value) c.certificate.invariant
 
 pub returns : goal.returns
 returns c =

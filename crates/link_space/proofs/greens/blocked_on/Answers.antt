@@ -12,5 +12,6 @@ returns-in_err-tick c =
 pub returns : goal.returns
 returns c =
     let fits : FitsSigned w128 c.in_ok-tick.tick = search rules in
-    let blocked = exit_blocked c.args.artery.now c.args.timing.now c.args.link c.requires.last c.args.dir c.ends-entry.result c.ends-entry.ensures c.in_ok-tick.tick c.in_default.ensures c.in_ok-tick.ensures in
+    let blocked = exit_blocked c.args.artery.now c.args.timing.now c.args.link c.requires.last c.args.dir c.ends-entry.result c.ends-entry.ensures
+    c.in_ok-tick.tick c.in_default.ensures c.in_ok-tick.ensures in
     simp to_z-of_z blocked

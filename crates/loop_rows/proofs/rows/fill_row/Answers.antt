@@ -12,7 +12,8 @@ returns-in-Some-clause-there c =
 
 pub returns-in-Some-clause-row : goal.returns-in-Some-clause-row
 returns-in-Some-clause-row c =
-    subst (λ n. c.fill_by.result ≡ true → c.fill_by.new.into ≡ written c.args.artery.now (form_of c.args.artery.now c.args.area.now n)) (sym (c.in-Some.ensures.1 c.args.row.index)) c.fill_by.ensures.row
+    subst (λ n. c.fill_by.result ≡ true → c.fill_by.new.into ≡ written c.args.artery.now (form_of c.args.artery.now c.args.area.now n))
+    (sym (c.in-Some.ensures.1 c.args.row.index)) c.fill_by.ensures.row
 
 pub returns-in-None-clause-there : goal.returns-in-None-clause-there
 returns-in-None-clause-there c = subst (λ n. IsTrue false ↔ HasRow c.args.artery.now n) (sym (c.in-None.ensures c.args.row.index)) (λ e. true≢false (sym e), λ h. absurd h)

@@ -7,4 +7,5 @@ pub returns-in_err-street-clause-answered : goal.returns-in_err-street-clause-an
 returns-in_err-street-clause-answered g c = let told = unread {asked = Some (Check c.args.artery.now c.args.certificate.now)} _ c.in_err-street.ensures.unread in search (rules, told)
 
 pub returns-clause-answered : goal.returns-clause-answered
-returns-clause-answered g c = let told = tells {asked = Some (Check c.args.artery.now c.args.certificate.now)} (Ok c.in_ok-check.field-0) c.in_ok-street.ensures.read refl c.in_ok-check.ensures.finds c.in_ok-check.ensures.no_put in search (rules, told)
+returns-clause-answered g c = let told = tells {asked = Some (Check c.args.artery.now c.args.certificate.now)} (Ok c.in_ok-check.field-0)
+    c.in_ok-street.ensures.read refl c.in_ok-check.ensures.finds c.in_ok-check.ensures.no_put in search (rules, told)

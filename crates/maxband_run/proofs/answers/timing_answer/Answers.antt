@@ -7,4 +7,5 @@ pub returns-in_err-street-clause-answered : goal.returns-in_err-street-clause-an
 returns-in_err-street-clause-answered g c = let told = unread {asked = Some (TimingOf c.args.artery.now c.args.file.now c.args.timing.now)} _ c.in_err-street.ensures.unread in search (rules, told)
 
 pub returns-clause-answered : goal.returns-clause-answered
-returns-clause-answered g c = let told = may_put {asked = Some (TimingOf c.args.artery.now c.args.file.now c.args.timing.now)} (Ok c.in_ok-typed_timing.field-0) c.in_ok-street.ensures.read refl c.in_ok-typed_timing.ensures.finds in search (rules, told)
+returns-clause-answered g c = let told = may_put {asked = Some (TimingOf c.args.artery.now c.args.file.now c.args.timing.now)} (Ok c.in_ok-typed_timing.field-0)
+    c.in_ok-street.ensures.read refl c.in_ok-typed_timing.ensures.finds in search (rules, told)

@@ -15,72 +15,113 @@ answer_to-requires g c = subst InLimits (sym c.command_in-command.ensures) (comm
 
 pub returns-in-Ok-deliver-clause-ends : goal.returns-in-Ok-deliver-clause-ends
 returns-in-Ok-deliver-clause-ends g c =
-    let before : Outside = outside (g.F.Files.holds c.args.files.now) (g.F.Files.read_faults c.args.files.now) (g.F.Files.put_faults c.args.files.now) (g.K.Sink.taken c.args.out.now) (g.K.Sink.faults c.args.out.now) in
-    let mid : Outside = outside (g.F.Files.holds c.answer_to.new.files) (g.F.Files.read_faults c.answer_to.new.files) (g.F.Files.put_faults c.answer_to.new.files) (g.K.Sink.taken c.reserve.new.self) (g.K.Sink.faults c.reserve.new.self) in
-    let now : Outside = outside (g.F.Files.holds c.deliver.new.files) (g.F.Files.read_faults c.deliver.new.files) (g.F.Files.put_faults c.deliver.new.files) (g.K.Sink.taken c.deliver.new.out) (g.K.Sink.faults c.deliver.new.out) in
-    let read : IsRead before mid = record { files = c.answer_to.ensures.kept.holds; reads = c.answer_to.ensures.kept.reads; puts = c.answer_to.ensures.kept.puts; taken = c.reserve.ensures.taken; writes = c.reserve.ensures.faults } in
+    let before : Outside = outside (g.F.Files.holds c.args.files.now) (g.F.Files.read_faults c.args.files.now) (g.F.Files.put_faults c.args.files.now)
+    (g.K.Sink.taken c.args.out.now) (g.K.Sink.faults c.args.out.now) in
+    let mid : Outside = outside (g.F.Files.holds c.answer_to.new.files) (g.F.Files.read_faults c.answer_to.new.files) (g.F.Files.put_faults c.answer_to.new.files)
+    (g.K.Sink.taken c.reserve.new.self) (g.K.Sink.faults c.reserve.new.self) in
+    let now : Outside = outside (g.F.Files.holds c.deliver.new.files) (g.F.Files.read_faults c.deliver.new.files) (g.F.Files.put_faults c.deliver.new.files)
+    (g.K.Sink.taken c.deliver.new.out) (g.K.Sink.faults c.deliver.new.out) in
+    let read : IsRead before mid = record {
+      files = c.answer_to.ensures.kept.holds;
+      reads = c.answer_to.ensures.kept.reads;
+      puts = c.answer_to.ensures.kept.puts;
+      taken = c.reserve.ensures.taken;
+      writes = c.reserve.ensures.faults;
+    } in
     let asked : Option Request = option_map commands.view c.command_in-command.result in
     subst (λ (o : Option Request). Ends before now o c.status-in-Ok-deliver.result.cause) c.command_in-command.ensures
-    (run_done before mid now read c.deliver.ensures.reads asked c.in-Ok.answer.cause c.in-Ok.answer.lines.items c.as_slice.result.now c.in-Ok.answer.put c.in-Ok.ensures.answered.told c.as_slice.ensures.value
+    (run_done before mid now read c.deliver.ensures.reads asked c.in-Ok.answer.cause c.in-Ok.answer.lines.items c.as_slice.result.now c.in-Ok.answer.put
+    c.in-Ok.ensures.answered.told c.as_slice.ensures.value
     c.status-in-Ok-deliver.result.cause c.status-in-Ok-deliver.ensures.cause c.in-Ok-deliver.ensures.done)
 
 pub returns-in-Err-Broken-clause-ends : goal.returns-in-Err-Broken-clause-ends
 returns-in-Err-Broken-clause-ends g c =
-    let before : Outside = outside (g.F.Files.holds c.args.files.now) (g.F.Files.read_faults c.args.files.now) (g.F.Files.put_faults c.args.files.now) (g.K.Sink.taken c.args.out.now) (g.K.Sink.faults c.args.out.now) in
-    let mid : Outside = outside (g.F.Files.holds c.answer_to.new.files) (g.F.Files.read_faults c.answer_to.new.files) (g.F.Files.put_faults c.answer_to.new.files) (g.K.Sink.taken c.reserve.new.self) (g.K.Sink.faults c.reserve.new.self) in
-    let now : Outside = outside (g.F.Files.holds c.deliver.new.files) (g.F.Files.read_faults c.deliver.new.files) (g.F.Files.put_faults c.deliver.new.files) (g.K.Sink.taken c.deliver.new.out) (g.K.Sink.faults c.deliver.new.out) in
-    let read : IsRead before mid = record { files = c.answer_to.ensures.kept.holds; reads = c.answer_to.ensures.kept.reads; puts = c.answer_to.ensures.kept.puts; taken = c.reserve.ensures.taken; writes = c.reserve.ensures.faults } in
+    let before : Outside = outside (g.F.Files.holds c.args.files.now) (g.F.Files.read_faults c.args.files.now) (g.F.Files.put_faults c.args.files.now)
+    (g.K.Sink.taken c.args.out.now) (g.K.Sink.faults c.args.out.now) in
+    let mid : Outside = outside (g.F.Files.holds c.answer_to.new.files) (g.F.Files.read_faults c.answer_to.new.files) (g.F.Files.put_faults c.answer_to.new.files)
+    (g.K.Sink.taken c.reserve.new.self) (g.K.Sink.faults c.reserve.new.self) in
+    let now : Outside = outside (g.F.Files.holds c.deliver.new.files) (g.F.Files.read_faults c.deliver.new.files) (g.F.Files.put_faults c.deliver.new.files)
+    (g.K.Sink.taken c.deliver.new.out) (g.K.Sink.faults c.deliver.new.out) in
+    let read : IsRead before mid = record {
+      files = c.answer_to.ensures.kept.holds;
+      reads = c.answer_to.ensures.kept.reads;
+      puts = c.answer_to.ensures.kept.puts;
+      taken = c.reserve.ensures.taken;
+      writes = c.reserve.ensures.faults;
+    } in
     let asked : Option Request = option_map commands.view c.command_in-command.result in
     subst (λ (o : Option Request). Ends before now o c.status-in-Err-Broken.result.cause) c.command_in-command.ensures
-    (run_broken before mid now read c.deliver.ensures.reads asked c.in-Ok.answer.cause c.in-Ok.answer.lines.items c.as_slice.result.now c.in-Ok.answer.put c.in-Ok.ensures.answered.told c.as_slice.ensures.value
+    (run_broken before mid now read c.deliver.ensures.reads asked c.in-Ok.answer.cause c.in-Ok.answer.lines.items c.as_slice.result.now c.in-Ok.answer.put
+    c.in-Ok.ensures.answered.told c.as_slice.ensures.value
     c.status-in-Err-Broken.result.cause c.status-in-Err-Broken.ensures.cause (c.in-Err-Broken.ensures.broken (ap Err c.in-Err-Broken.field-0-is)))
 
 pub returns-clause-ends : goal.returns-clause-ends
 returns-clause-ends g c =
-    let before : Outside = outside (g.F.Files.holds c.args.files.now) (g.F.Files.read_faults c.args.files.now) (g.F.Files.put_faults c.args.files.now) (g.K.Sink.taken c.args.out.now) (g.K.Sink.faults c.args.out.now) in
-    let mid : Outside = outside (g.F.Files.holds c.answer_to.new.files) (g.F.Files.read_faults c.answer_to.new.files) (g.F.Files.put_faults c.answer_to.new.files) (g.K.Sink.taken c.reserve.new.self) (g.K.Sink.faults c.reserve.new.self) in
-    let now : Outside = outside (g.F.Files.holds c.deliver.new.files) (g.F.Files.read_faults c.deliver.new.files) (g.F.Files.put_faults c.deliver.new.files) (g.K.Sink.taken c.deliver.new.out) (g.K.Sink.faults c.deliver.new.out) in
-    let read : IsRead before mid = record { files = c.answer_to.ensures.kept.holds; reads = c.answer_to.ensures.kept.reads; puts = c.answer_to.ensures.kept.puts; taken = c.reserve.ensures.taken; writes = c.reserve.ensures.faults } in
+    let before : Outside = outside (g.F.Files.holds c.args.files.now) (g.F.Files.read_faults c.args.files.now) (g.F.Files.put_faults c.args.files.now)
+    (g.K.Sink.taken c.args.out.now) (g.K.Sink.faults c.args.out.now) in
+    let mid : Outside = outside (g.F.Files.holds c.answer_to.new.files) (g.F.Files.read_faults c.answer_to.new.files) (g.F.Files.put_faults c.answer_to.new.files)
+    (g.K.Sink.taken c.reserve.new.self) (g.K.Sink.faults c.reserve.new.self) in
+    let now : Outside = outside (g.F.Files.holds c.deliver.new.files) (g.F.Files.read_faults c.deliver.new.files) (g.F.Files.put_faults c.deliver.new.files)
+    (g.K.Sink.taken c.deliver.new.out) (g.K.Sink.faults c.deliver.new.out) in
+    let read : IsRead before mid = record {
+      files = c.answer_to.ensures.kept.holds;
+      reads = c.answer_to.ensures.kept.reads;
+      puts = c.answer_to.ensures.kept.puts;
+      taken = c.reserve.ensures.taken;
+      writes = c.reserve.ensures.faults;
+    } in
     let asked : Option Request = option_map commands.view c.command_in-command.result in
     subst (λ (o : Option Request). Ends before now o c.status-in-Err-Memory.result.cause) c.command_in-command.ensures
-    (run_wanted before mid now read c.deliver.ensures.reads asked c.in-Ok.answer.cause c.in-Ok.answer.lines.items c.as_slice.result.now c.in-Ok.answer.put c.in-Ok.ensures.answered.told c.as_slice.ensures.value
-    c.room_for_faults-room.result c.status-in-Err-Memory.result.cause c.status-in-Err-Memory.ensures.cause c.room_for_faults-room.ensures (c.in-Err-Memory.ensures.wanting (ap Err c.in-Err-Memory.field-0-is))
+    (run_wanted before mid now read c.deliver.ensures.reads asked c.in-Ok.answer.cause c.in-Ok.answer.lines.items c.as_slice.result.now c.in-Ok.answer.put
+    c.in-Ok.ensures.answered.told c.as_slice.ensures.value
+    c.room_for_faults-room.result c.status-in-Err-Memory.result.cause c.status-in-Err-Memory.ensures.cause c.room_for_faults-room.ensures
+    (c.in-Err-Memory.ensures.wanting (ap Err c.in-Err-Memory.field-0-is))
     (c.in-Err-Memory.ensures.untouched (ap Err c.in-Err-Memory.field-0-is)))
 
 pub returns-in-Ok-deliver-clause-files : goal.returns-in-Ok-deliver-clause-files
 returns-in-Ok-deliver-clause-files g c =
     let asked : Option Request = option_map commands.view c.command_in-command.result in
     subst (λ (o : Option Request). OthersKept (shape o).output (g.F.Files.holds c.args.files.now) (g.F.Files.holds c.deliver.new.files)) c.command_in-command.ensures
-    (others_since (g.F.Files.holds c.args.files.now) (g.F.Files.read_faults c.args.files.now) (g.F.Files.read_faults c.answer_to.new.files) asked c.in-Ok.answer.cause c.in-Ok.answer.lines.items c.in-Ok.answer.put
-    (g.F.Files.holds c.args.files.now) (g.F.Files.holds c.answer_to.new.files) (g.F.Files.holds c.deliver.new.files) c.answer_to.ensures.kept.holds c.in-Ok.ensures.answered.told c.deliver.ensures.others)
+    (others_since (g.F.Files.holds c.args.files.now) (g.F.Files.read_faults c.args.files.now) (g.F.Files.read_faults c.answer_to.new.files) asked
+    c.in-Ok.answer.cause c.in-Ok.answer.lines.items c.in-Ok.answer.put
+    (g.F.Files.holds c.args.files.now) (g.F.Files.holds c.answer_to.new.files) (g.F.Files.holds c.deliver.new.files) c.answer_to.ensures.kept.holds
+    c.in-Ok.ensures.answered.told c.deliver.ensures.others)
 
 pub returns-in-Err-Broken-clause-files : goal.returns-in-Err-Broken-clause-files
 returns-in-Err-Broken-clause-files g c =
     let asked : Option Request = option_map commands.view c.command_in-command.result in
     subst (λ (o : Option Request). OthersKept (shape o).output (g.F.Files.holds c.args.files.now) (g.F.Files.holds c.deliver.new.files)) c.command_in-command.ensures
-    (others_since (g.F.Files.holds c.args.files.now) (g.F.Files.read_faults c.args.files.now) (g.F.Files.read_faults c.answer_to.new.files) asked c.in-Ok.answer.cause c.in-Ok.answer.lines.items c.in-Ok.answer.put
-    (g.F.Files.holds c.args.files.now) (g.F.Files.holds c.answer_to.new.files) (g.F.Files.holds c.deliver.new.files) c.answer_to.ensures.kept.holds c.in-Ok.ensures.answered.told c.deliver.ensures.others)
+    (others_since (g.F.Files.holds c.args.files.now) (g.F.Files.read_faults c.args.files.now) (g.F.Files.read_faults c.answer_to.new.files) asked
+    c.in-Ok.answer.cause c.in-Ok.answer.lines.items c.in-Ok.answer.put
+    (g.F.Files.holds c.args.files.now) (g.F.Files.holds c.answer_to.new.files) (g.F.Files.holds c.deliver.new.files) c.answer_to.ensures.kept.holds
+    c.in-Ok.ensures.answered.told c.deliver.ensures.others)
 
 pub returns-in-Err-Broken-clause-puts : goal.returns-in-Err-Broken-clause-puts
 returns-in-Err-Broken-clause-puts g c =
     let asked : Option Request = option_map commands.view c.command_in-command.result in
     subst (λ (o : Option Request). PutsCounted (shape o).output (g.F.Files.put_faults c.args.files.now) (g.F.Files.put_faults c.deliver.new.files)) c.command_in-command.ensures
-    (puts_since_entry (g.F.Files.holds c.args.files.now) (g.F.Files.read_faults c.args.files.now) (g.F.Files.read_faults c.answer_to.new.files) asked c.in-Ok.answer.cause c.in-Ok.answer.lines.items c.in-Ok.answer.put
-    (g.F.Files.put_faults c.args.files.now) (g.F.Files.put_faults c.answer_to.new.files) (g.F.Files.put_faults c.deliver.new.files) c.answer_to.ensures.kept.puts c.in-Ok.ensures.answered.told c.deliver.ensures.puts)
+    (puts_since_entry (g.F.Files.holds c.args.files.now) (g.F.Files.read_faults c.args.files.now) (g.F.Files.read_faults c.answer_to.new.files) asked
+    c.in-Ok.answer.cause c.in-Ok.answer.lines.items c.in-Ok.answer.put
+    (g.F.Files.put_faults c.args.files.now) (g.F.Files.put_faults c.answer_to.new.files) (g.F.Files.put_faults c.deliver.new.files) c.answer_to.ensures.kept.puts
+    c.in-Ok.ensures.answered.told c.deliver.ensures.puts)
 
 pub returns-clause-files : goal.returns-clause-files
 returns-clause-files g c =
     let asked : Option Request = option_map commands.view c.command_in-command.result in
     subst (λ (o : Option Request). OthersKept (shape o).output (g.F.Files.holds c.args.files.now) (g.F.Files.holds c.deliver.new.files)) c.command_in-command.ensures
-    (others_since (g.F.Files.holds c.args.files.now) (g.F.Files.read_faults c.args.files.now) (g.F.Files.read_faults c.answer_to.new.files) asked c.in-Ok.answer.cause c.in-Ok.answer.lines.items c.in-Ok.answer.put
-    (g.F.Files.holds c.args.files.now) (g.F.Files.holds c.answer_to.new.files) (g.F.Files.holds c.deliver.new.files) c.answer_to.ensures.kept.holds c.in-Ok.ensures.answered.told c.deliver.ensures.others)
+    (others_since (g.F.Files.holds c.args.files.now) (g.F.Files.read_faults c.args.files.now) (g.F.Files.read_faults c.answer_to.new.files) asked
+    c.in-Ok.answer.cause c.in-Ok.answer.lines.items c.in-Ok.answer.put
+    (g.F.Files.holds c.args.files.now) (g.F.Files.holds c.answer_to.new.files) (g.F.Files.holds c.deliver.new.files) c.answer_to.ensures.kept.holds
+    c.in-Ok.ensures.answered.told c.deliver.ensures.others)
 
 pub returns-clause-puts : goal.returns-clause-puts
 returns-clause-puts g c =
     let asked : Option Request = option_map commands.view c.command_in-command.result in
     subst (λ (o : Option Request). PutsCounted (shape o).output (g.F.Files.put_faults c.args.files.now) (g.F.Files.put_faults c.deliver.new.files)) c.command_in-command.ensures
-    (puts_since_entry (g.F.Files.holds c.args.files.now) (g.F.Files.read_faults c.args.files.now) (g.F.Files.read_faults c.answer_to.new.files) asked c.in-Ok.answer.cause c.in-Ok.answer.lines.items c.in-Ok.answer.put
-    (g.F.Files.put_faults c.args.files.now) (g.F.Files.put_faults c.answer_to.new.files) (g.F.Files.put_faults c.deliver.new.files) c.answer_to.ensures.kept.puts c.in-Ok.ensures.answered.told c.deliver.ensures.puts)
+    (puts_since_entry (g.F.Files.holds c.args.files.now) (g.F.Files.read_faults c.args.files.now) (g.F.Files.read_faults c.answer_to.new.files) asked
+    c.in-Ok.answer.cause c.in-Ok.answer.lines.items c.in-Ok.answer.put
+    (g.F.Files.put_faults c.args.files.now) (g.F.Files.put_faults c.answer_to.new.files) (g.F.Files.put_faults c.deliver.new.files) c.answer_to.ensures.kept.puts
+    c.in-Ok.ensures.answered.told c.deliver.ensures.puts)
 
 pub returns-then-is_err : goal.returns-then-is_err
 returns-then-is_err g c = grind (arith, common_steps)

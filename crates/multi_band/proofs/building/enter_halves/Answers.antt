@@ -30,7 +30,8 @@ module _ (a : Street) (s : NamedTableau) where
   half_way t u p i l w e f = way_next (link_pivots a) s t u (half_pivot a Outbound i) (half_pivot a Inbound i ∷ half_pivots a (i + 1) (count a - (i + 1))) (next_link t i l w) (f ∙ ap (made t) e)
 
   -- and the inbound one
-  whole_way : (t u : NamedTableau) (p : StartPivot) (i : ℕ) → IsOnTheWay (link_pivots a) s t (half_pivot a Inbound i ∷ half_pivots a (i + 1) (count a - (i + 1))) → p ≡ half_pivot a Inbound i → u ≡ made t p
+  whole_way : (t u : NamedTableau) (p : StartPivot) (i : ℕ) → IsOnTheWay (link_pivots a) s t (half_pivot a Inbound i ∷ half_pivots a (i + 1) (count a - (i + 1)))
+      → p ≡ half_pivot a Inbound i → u ≡ made t p
       → IsOnTheWay (link_pivots a) s u (half_pivots a (i + 1) (count a - (i + 1)))
   whole_way t u p i w e f = way_next (link_pivots a) s t u (half_pivot a Inbound i) (half_pivots a (i + 1) (count a - (i + 1))) w (f ∙ ap (made t) e)
 

@@ -17,11 +17,13 @@ overflow_sub-result-in-Inbound c =
 pub returns-in-Outbound : goal.returns-in-Outbound
 returns-in-Outbound c =
     let e = rows_from c.args.artery.now Outbound c.ratio_rows-extra.result c.ratio_rows-extra.ensures.one c.ratio_rows-extra.ensures.other in
-    let r : c.rows.result - (6 * (c.count-links.result - 1) + c.ratio_rows-extra.result) ≡ rows_before c.args.artery.now Outbound = omega (arith, e, c.requires, c.count-links.ensures.value, c.rows.ensures.count) in
+    let r : c.rows.result - (6 * (c.count-links.result - 1) + c.ratio_rows-extra.result) ≡ rows_before c.args.artery.now Outbound =
+    omega (arith, e, c.requires, c.count-links.ensures.value, c.rows.ensures.count) in
     r ∙ ap (rows_before c.args.artery.now) (sym c.in-Outbound.is)
 
 pub returns-in-Inbound : goal.returns-in-Inbound
 returns-in-Inbound c =
     let e = rows_from c.args.artery.now Inbound c.ratio_rows-extra.result c.ratio_rows-extra.ensures.one c.ratio_rows-extra.ensures.other in
-    let r : c.rows-in-Inbound.result - (2 * (c.count-links.result - 1) + c.ratio_rows-extra.result) ≡ rows_before c.args.artery.now Inbound = omega (arith, e, c.requires, c.count-links.ensures.value, c.rows-in-Inbound.ensures.count) in
+    let r : c.rows-in-Inbound.result - (2 * (c.count-links.result - 1) + c.ratio_rows-extra.result) ≡ rows_before c.args.artery.now Inbound =
+    omega (arith, e, c.requires, c.count-links.ensures.value, c.rows-in-Inbound.ensures.count) in
     r ∙ ap (rows_before c.args.artery.now) (sym c.in-Inbound.is)

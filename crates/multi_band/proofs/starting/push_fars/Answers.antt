@@ -14,7 +14,8 @@ fars_more d by i (suc k) =
     let e : i + suc k ≡ i + 1 + k = omega arith in
     ap (λ j. far_weight d by i ∷ (far_weights d by (i + 1) k ++ far_weight d by j ∷ [])) e ∙ ap (λ ws. far_weight d by i ∷ ws) (fars_more d by (i + 1) k)
 
-pushed : (d : Dir) (by : ℚ) (i : ℕ) (old list new : List Weight) (w : Weight) → 1 ≤ i → list ≡ old ++ far_weights d by 1 (i - 1) → new ≡ list ++ w ∷ [] → w ≡ far_weight d by i → new ≡ old ++ far_weights d by 1 (i + 1 - 1)
+pushed : (d : Dir) (by : ℚ) (i : ℕ) (old list new : List Weight) (w : Weight) → 1 ≤ i → list ≡ old ++ far_weights d by 1 (i - 1) → new ≡ list ++ w ∷ []
+    → w ≡ far_weight d by i → new ≡ old ++ far_weights d by 1 (i + 1 - 1)
 pushed d by i old list new w l e f g =
     let m : 1 + (i - 1) ≡ i = omega arith in
     let n : suc (i - 1) ≡ i + 1 - 1 = omega arith in

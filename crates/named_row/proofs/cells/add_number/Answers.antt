@@ -23,4 +23,5 @@ returns-in-Ok-plus c =
     ap Ok e ∙ sym (ap (λ o. attempt o v) (both_fit c.args.place c.args.by c.args.number c.args.other c.in-Ok.product c.in-Ok.ensures.value c.in-Ok-plus.ensures.value.0))
 
 pub returns-in-Err-plus : goal.returns-in-Err-plus
-returns-in-Err-plus c = sym (ap (λ o. attempt o (c.args.number +ℚ c.args.by *ℚ c.args.other)) (sum_refused c.args.place c.args.by c.args.number c.args.other c.in-Ok.product _ c.in-Ok.ensures.value c.in-Err-plus.ensures.wide))
+returns-in-Err-plus c = sym (ap (λ o. attempt o (c.args.number +ℚ c.args.by *ℚ c.args.other)) (sum_refused c.args.place c.args.by c.args.number c.args.other
+    c.in-Ok.product _ c.in-Ok.ensures.value c.in-Err-plus.ensures.wide))

@@ -9,7 +9,10 @@ returns-then-q-p t c = apart_rank _ _ _ _ _ c.requires.left c.requires.right c.i
 
 pub returns-then-r-eq0 : goal.returns-then-r-eq0
 returns-then-r-eq0 t c =
-    let z : (c.args.a % c.args.b ≡ 0) ⊎ (c.args.c % c.args.d ≡ 0) = elim c.then-r-eq0.branch [ then-r-eq0-via-then-r-eq0 w ↦ inl w.if-r-eq0.true | then-r-eq0-via-else-r-eq0+then-s-eq0 w ↦ inr w.if-s-eq0.true ] in
+    let z : (c.args.a % c.args.b ≡ 0) ⊎ (c.args.c % c.args.d ≡ 0) = elim c.then-r-eq0.branch [
+      | then-r-eq0-via-then-r-eq0 w ↦ inl w.if-r-eq0.true
+      | then-r-eq0-via-else-r-eq0+then-s-eq0 w ↦ inr w.if-s-eq0.true
+    ] in
     rest_rank _ _ _ _ _ c.requires.left c.requires.right c.if-q-p.false z (ranked _ _ _ c.cmp-then-r-eq0.ensures)
 
 pub returns : goal.returns

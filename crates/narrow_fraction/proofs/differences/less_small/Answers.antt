@@ -61,4 +61,5 @@ returns c =
     let r = word_in c.less_product-top.result c.less_product-top.type_inv in
     let i = word_i128 c.less_product-top.result r in
     let v = simp (to_z-of_z, r, i) at c.reduced_by.ensures in
-    (rw t at v) ∙ less_over c.args.from.top c.args.factor.top c.args.other.top c.args.from.bottom c.args.factor.bottom c.args.other.bottom c.requires.from.above c.requires.factor.above c.requires.other.above
+    (rw t at v) ∙ less_over c.args.from.top c.args.factor.top c.args.other.top c.args.from.bottom c.args.factor.bottom c.args.other.bottom c.requires.from.above
+    c.requires.factor.above c.requires.other.above

@@ -24,7 +24,8 @@ returns-then-rest-eq1-clause-value c = sym (gcd-step c.args.a c.args.b ∙ ap (g
 pub returns-clause-value : goal.returns-clause-value
 returns-clause-value c =
     ap (λ d. d * 2 ^ c.min-twos.result % 18446744073709551616) c.odd_divisor.ensures
-    ∙ by_odd_parts c.args.a c.args.b c.odd_part.result c.odd_part-2.result _ _ c.min-twos.result (omega arith) (omega arith) c.odd_part.ensures.power c.odd_part-2.ensures.power c.odd_part.ensures.odd c.odd_part-2.ensures.odd c.min-twos.ensures
+    ∙ by_odd_parts c.args.a c.args.b c.odd_part.result c.odd_part-2.result _ _ c.min-twos.result (omega arith) (omega arith) c.odd_part.ensures.power
+    c.odd_part-2.ensures.power c.odd_part.ensures.odd c.odd_part-2.ensures.odd c.min-twos.ensures
 
 pub returns-clause-positive : goal.returns-clause-positive
 returns-clause-positive c h = rw (returns-clause-value c) (gcd_pos c.args.a c.args.b h)

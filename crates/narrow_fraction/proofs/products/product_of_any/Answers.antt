@@ -24,10 +24,21 @@ pub build-requires-clause-reduced : goal.build-requires-clause-reduced
 build-requires-clause-reduced c =
     let j = rw c.in-Some.is at c.checked_mul.ensures in
     let k = rw c.in-Some-checked_mul.is at c.checked_mul-2.ensures in
-    rw (j.1, k.1, c.divided.ensures, c.divided-2.ensures, c.divided-3.ensures, c.divided-4.ensures, c.common_divisor-left.ensures.value, c.common_divisor-right.ensures.value) (cross_reduced _ _ _ _ c.requires.b c.requires.d c.requires.left c.requires.right)
+    rw (j.1, k.1, c.divided.ensures, c.divided-2.ensures, c.divided-3.ensures, c.divided-4.ensures, c.common_divisor-left.ensures.value, c.common_divisor-right.ensures.value)
+    (cross_reduced _ _ _ _ c.requires.b c.requires.d c.requires.left c.requires.right)
 
 pub returns : goal.returns
 returns c =
     let j = rw c.in-Some.is at c.checked_mul.ensures in
     let k = rw c.in-Some-checked_mul.is at c.checked_mul-2.ensures in
-    simp (j.1, k.1, c.divided.ensures, c.divided-2.ensures, c.divided-3.ensures, c.divided-4.ensures, c.common_divisor-left.ensures.value, c.common_divisor-right.ensures.value, cross-over c.args.negative c.args.a c.args.b c.args.c c.args.d c.requires.b c.requires.d) at c.build.ensures
+    simp (
+      j.1,
+      k.1,
+      c.divided.ensures,
+      c.divided-2.ensures,
+      c.divided-3.ensures,
+      c.divided-4.ensures,
+      c.common_divisor-left.ensures.value,
+      c.common_divisor-right.ensures.value,
+      cross-over c.args.negative c.args.a c.args.b c.args.c c.args.d c.requires.b c.requires.d,
+    ) at c.build.ensures

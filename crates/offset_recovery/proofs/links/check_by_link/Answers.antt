@@ -16,7 +16,8 @@ returns-in_err-check_number g c =
     let same = ap₂ number_test (sym c.column.ensures) (sym c.ticks-ticks.ensures) in
     let refused = same ∙ attempt_err _ _ _ c.in_err-check_number.ensures in
     rw (p.1, p.2)
-    (ap (λ (o : Option WideTiming). attempt o tt) (sym (some_after (λ (i : ℕ). number_test (at i) (ticks_in a x (at i))) c.loop-link.link (count a - 1) c.in_err-check_number.field-0.0 c.loop-link.auto.link (omega arith) c.loop-link.invariant refused)))
+    (ap (λ (o : Option WideTiming). attempt o tt) (sym (some_after (λ (i : ℕ). number_test (at i) (ticks_in a x (at i))) c.loop-link.link (count a - 1)
+    c.in_err-check_number.field-0.0 c.loop-link.auto.link (omega arith) c.loop-link.invariant refused)))
 
 pub loop-link-preserved : goal.loop-link-preserved
 loop-link-preserved g c =

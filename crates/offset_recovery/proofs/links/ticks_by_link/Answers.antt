@@ -7,7 +7,8 @@ use Rattle.offset_recovery.proofs.links.ticks_by_link.Goals as goal
 pub loop-link-preserved : goal.loop-link-preserved
 loop-link-preserved g c =
     let a = c.args.artery.now in let x = c.args.point.now.values.items in
-    item_more c.loop-link.ticks.items _ c.ticks.result (λ i. ticks_in a x (g.C.LinkColumn.at a c.args.dir i)) 1 c.loop-link.link c.loop-link.auto.link c.loop-link.invariant c.ticks.ensures c.in_ok-push.ensures
+    item_more c.loop-link.ticks.items _ c.ticks.result (λ i. ticks_in a x (g.C.LinkColumn.at a c.args.dir i)) 1 c.loop-link.link c.loop-link.auto.link
+    c.loop-link.invariant c.ticks.ensures c.in_ok-push.ensures
 
 pub ticks-requires : goal.ticks-requires
 ticks-requires g c = grind (arith, common_steps)

@@ -16,4 +16,5 @@ returns-clause-value c =
 
 pub returns-clause-small : goal.returns-clause-small
 returns-clause-small c =
-    subst (λ n. get_or c.args.reds.now (n - 1) 0 < 2 ^ 80) (sym c.count.ensures.value) (last_listed c.args.artery.now c.args.point.now.values.items c.args.reds.now c.requires.some c.requires.reds c.requires.fit)
+    subst (λ n. get_or c.args.reds.now (n - 1) 0 < 2 ^ 80) (sym c.count.ensures.value) (last_listed c.args.artery.now c.args.point.now.values.items
+    c.args.reds.now c.requires.some c.requires.reds c.requires.fit)

@@ -27,4 +27,5 @@ returns-in-Ok g c =
 pub returns-in-Err : goal.returns-in-Err
 returns-in-Err g c =
     let a = c.args.artery.now in let box = c.args.area.now in let x = c.args.point.now.values.items in
-    read_fault a box x (g.K.BandKind.tests a x) (g.K.BandKind.timing a x) c.in-Err.fault (finds_none (box_tests a box x) c.in_ok-place.field-0 c.in_ok-place.ensures c.in_default.not-Some) c.in-Err.ensures
+    read_fault a box x (g.K.BandKind.tests a x) (g.K.BandKind.timing a x) c.in-Err.fault (finds_none (box_tests a box x) c.in_ok-place.field-0 c.in_ok-place.ensures c.in_default.not-Some)
+    c.in-Err.ensures

@@ -1,6 +1,7 @@
-use Rattle.std.proofs.Common.{◌<◌}
+use Rattle.std.proofs.Common.{ℕ, ◌≤◌, ◌<◌}
+use Rattle.outer_edge.specs.Replaced.{new_name}
 use Rattle.outer_edge.proofs.replacing.new_beside.Given as goal
 
--- once a number was taken, the file may be written in place
+-- all numbers so far are taken
 abbrev pub invariant-numbers : goal.invariant-numbers
-invariant-numbers g l = 1 < l.number-counter → g.P.Place.MayWriteOver l.place
+invariant-numbers g l = (number : ℕ) → 1 ≤ number → number < l.number-counter → g.P.Place.IsTaken l.place (new_name l.name number)

@@ -12,7 +12,8 @@ returns-in_err-denominator c =
     let i = c.loop-weight.weight-index in
     let next : lcm c.loop-weight.denominator c.bottom.result ≡ lcm c.loop-weight.denominator c.weight-item.result.by.den = ap (λ n. lcm c.loop-weight.denominator n) c.bottom.ensures.value in
     let whole = c.loop-weight.invariant.rest ∙ denominator_next c.loop-weight.denominator ws i _ c.weight-item.result c.loop-weight-test.true c.weight-item.is in
-    let least = denominator_least (lcm c.loop-weight.denominator c.weight-item.result.by.den) (drop (i + 1) ws) (lcm_above c.loop-weight.denominator c.weight-item.result.by.den c.loop-weight.invariant.above c.weight-item.result.by.positive) in
+    let least = denominator_least (lcm c.loop-weight.denominator c.weight-item.result.by.den) (drop (i + 1) ws)
+    (lcm_above c.loop-weight.denominator c.weight-item.result.by.den c.loop-weight.invariant.above c.weight-item.result.by.positive) in
     subst (λ (r : Option ℕ). SomeIff r (denominator_of ws < 2 ^ 127) (denominator_of ws)) (sym c.from_residual.ensures)
     (λ below. c.in_err-denominator.ensures (omega (arith, next, whole, least, below)))
 
@@ -25,7 +26,8 @@ loop-weight-preserved c =
     record {
       above = subst (λ n. 0 < n) (sym is) (lcm_above c.loop-weight.denominator c.weight-item.result.by.den c.loop-weight.invariant.above c.weight-item.result.by.positive);
       small = omega (arith, c.in_ok-denominator.ensures);
-      rest = c.loop-weight.invariant.rest ∙ denominator_next c.loop-weight.denominator ws i _ c.weight-item.result c.loop-weight-test.true c.weight-item.is ∙ ap (λ n. denominator_from n (drop (i + 1) ws)) (sym is);
+      rest = c.loop-weight.invariant.rest ∙ denominator_next c.loop-weight.denominator ws i _ c.weight-item.result c.loop-weight-test.true c.weight-item.is
+          ∙ ap (λ n. denominator_from n (drop (i + 1) ws)) (sym is);
     }
 
 pub returns : goal.returns

@@ -9,5 +9,6 @@ pub returns : goal.returns
 returns c =
     let rows = c.args.rows.now in
     let row = c.args.row in
-    let point = c.partition_point-before.ensures.partitioned (λ (r : RowId). is_below r row) (always_returns_same _ _ _ (λ a r f k. search (rules, of_calls))) (λ i j d le lt h. below_first rows row i j d c.requires le lt h) in
+    let point = c.partition_point-before.ensures.partitioned (λ (r : RowId). is_below r row) (always_returns_same _ _ _ (λ a r f k. search (rules, of_calls)))
+    (λ i j d le lt h. below_first rows row i j d c.requires le lt h) in
     sym (place_from_point rows row c.partition_point-before.result c.partition_point-before.ensures.bound point.0 point.1)

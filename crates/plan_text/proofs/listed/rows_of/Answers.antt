@@ -32,5 +32,6 @@ returns c =
     let is = c.loop-node.invariant ∙ nodes_passed nodes c.loop-node.node-index c.loop-node.rows.keys c.loop-node-test.false in
     record {
       value = subst (λ (y : List RowId). IfOk c.in_order.result (λ v. v.items ≡ y)) (sym is) c.in_order.ensures;
-      ascend = IfOk-weaker c.in_order.result (λ v. v.items ≡ c.loop-node.rows.keys) (λ v. AscendRows None v.items) (λ v e. subst (AscendRows None) (sym (e ∙ sym is)) (rows_ascend (map node_of nodes))) c.in_order.ensures;
+      ascend = IfOk-weaker c.in_order.result (λ v. v.items ≡ c.loop-node.rows.keys) (λ v. AscendRows None v.items)
+          (λ v e. subst (AscendRows None) (sym (e ∙ sym is)) (rows_ascend (map node_of nodes))) c.in_order.ensures;
     }

@@ -27,7 +27,8 @@ returns c =
     let second = c.push_claim.new.out.items in
     let own : c.in_ok-rows.rows.items ≡ rows_of w.nodes = c.in_ok-rows.ensures.value ∙ ap (λ (y : List CertNode). rows_of (map node_of y)) c.as_slice.ensures.value in
     let first : c.push_line.new.out.items ≡ ended (second_line ∷ []) = c.in_ok-push_line.ensures ∙ ap (λ (y : List ℕ). y ++ ended (second_line ∷ [])) c.new-out.ensures.items in
-    let rows : c.push_rows.new.out.items ≡ second ++ ended (row_lines (rows_of w.nodes)) = c.in_ok-push_rows.ensures ∙ ap (λ (y : List RowId). second ++ ended (row_lines y)) (c.as_slice-2.ensures.value ∙ own) in
+    let rows : c.push_rows.new.out.items ≡ second ++ ended (row_lines (rows_of w.nodes)) = c.in_ok-push_rows.ensures
+    ∙ ap (λ (y : List RowId). second ++ ended (row_lines y)) (c.as_slice-2.ensures.value ∙ own) in
     let tree : c.push_tree.new.out.items ≡ c.push_rows.new.out.items ++ ended (tree_lines (Listed (rows_of w.nodes)) w.nodes) =
     c.in_ok-push_tree.ensures.text
     ∙ ap (λ (y : List RowId). c.push_rows.new.out.items ++ ended (tree_lines (Listed y) (map node_of c.as_slice-4.result.now))) (c.as_slice-3.ensures.value ∙ own)

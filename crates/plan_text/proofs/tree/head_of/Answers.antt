@@ -5,7 +5,8 @@ use Rattle.plan_text.proofs.Shapes.{fails_so, no_head, no_fractions, no_split}
 use Rattle.std.proofs.lemmas.Grind.{common_steps}
 use Rattle.plan_text.specs.CertificateReading.{head_of}
 use Rattle.plan_text.proofs.tree.head_of.Goals as goal
-use Rattle.plan_text.proofs.tree.head_of.Goals.{in_default-via-then-words-lt2, in_default-via-in-len2+else-eq, in_default-via-in-len4+else-eq-2, in_default-via-else-words-lt2+else-words-lt3+else-words-lt4+else-words-lt5}
+use Rattle.plan_text.proofs.tree.head_of.Goals.{in_default-via-then-words-lt2, in_default-via-in-len2+else-eq, in_default-via-in-len4+else-eq-2}
+use Rattle.plan_text.proofs.tree.head_of.Goals.{in_default-via-else-words-lt2+else-words-lt3+else-words-lt4+else-words-lt5}
 
 pub returns-in_err-at-in-len4 : goal.returns-in_err-at-in-len4
 unfolding head_of
@@ -21,7 +22,8 @@ returns-in_default c =
             | in_default-via-then-words-lt2 w ↦ no_head names c.args.line words (omega (arith, ltb-true)) (omega (arith, ltb-true)) (omega (arith, ltb-true))
             | in_default-via-in-len2+else-eq w ↦ no_fractions names c.args.line words _ w.fractions_key.result.now (omega arith) w.fractions_key.ensures w.if-eq.ensures
             | in_default-via-in-len4+else-eq-2 w ↦ no_split names c.args.line words _ w.as_slice.result.now (omega arith) w.as_slice.ensures w.if-eq-2.ensures
-            | in_default-via-else-words-lt2+else-words-lt3+else-words-lt4+else-words-lt5 w ↦ no_head names c.args.line words (omega (arith, ltb-false)) (omega (arith, ltb-false)) (omega (arith, ltb-false))
+            | in_default-via-else-words-lt2+else-words-lt3+else-words-lt4+else-words-lt5 w ↦ no_head names c.args.line words (omega (arith, ltb-false))
+                (omega (arith, ltb-false)) (omega (arith, ltb-false))
           ]);
       formed = tt;
     }

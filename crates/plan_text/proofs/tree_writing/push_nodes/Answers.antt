@@ -21,7 +21,8 @@ loop-node-preserved c =
     let nodes = c.args.nodes.now in
     let place = c.loop-node.node-index in
     record {
-      text = more_flat node_of (node_lines (naming_of c.args.names)) c.args.out.now.items nodes place _ c.node-item.result c.loop-node.out.items _ c.loop-node-test.true c.node-item.is c.loop-node.invariant.text c.in_ok-push_node.ensures.text;
+      text = more_flat node_of (node_lines (naming_of c.args.names)) c.args.out.now.items nodes place _ c.node-item.result c.loop-node.out.items _
+          c.loop-node-test.true c.node-item.is c.loop-node.invariant.text c.in_ok-push_node.ensures.text;
       held = more_held nodes place _ c.node-item.result c.loop-node-test.true c.node-item.is c.loop-node.invariant.held c.in_ok-push_node.ensures.held;
     }
 

@@ -27,7 +27,8 @@ loop-weight-preserved c =
     let weights = c.args.weights.now in
     let place = c.loop-weight.weight-index in
     record {
-      text = more_mapped (weight_line (naming_of c.args.names) c.args.form) c.args.out.now.items weights place _ c.weight-item.result c.loop-weight.out.items _ c.loop-weight-test.true c.weight-item.is c.loop-weight.invariant.text c.in_ok-push_weight.ensures.text;
+      text = more_mapped (weight_line (naming_of c.args.names) c.args.form) c.args.out.now.items weights place _ c.weight-item.result c.loop-weight.out.items
+          _ c.loop-weight-test.true c.weight-item.is c.loop-weight.invariant.text c.in_ok-push_weight.ensures.text;
       held = All-more IsHeldWeight weights place _ c.loop-weight-test.true c.loop-weight.invariant.held (subst IsHeldWeight c.weight-item.is c.push_weight.ensures.held);
     }
 

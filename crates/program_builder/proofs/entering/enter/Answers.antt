@@ -19,7 +19,8 @@ enter_columns-requires-clause-ready c =
 
 pub reset-requires-clause-made : goal.reset-requires-clause-made
 reset-requires-clause-made c =
-    made_on_the_way c.args.artery.now c.args.area.now c.args.basis.now c.enter_columns.new.tableau (ready c.args.artery.now c.args.area.now c.args.basis.now c.requires.basis) c.known_named.ensures.shaped
+    made_on_the_way c.args.artery.now c.args.area.now c.args.basis.now c.enter_columns.new.tableau (ready c.args.artery.now c.args.area.now c.args.basis.now c.requires.basis)
+    c.known_named.ensures.shaped
     (subst (λ (s : NamedTableau). IsSpentOnTheWay c.args.basis.now s c.enter_columns.new.tableau) c.load.ensures.loaded c.in-Err.ensures.spent)
 
 pub returns-in-Ok-clause-outcome : goal.returns-in-Ok-clause-outcome

@@ -9,11 +9,13 @@ pub write_bounds-requires : goal.write_bounds-requires
 write_bounds-requires c =
     let a = c.turn_all.auto.bounds in
     let b = c.read_bounds.auto.bounds in
-    let e : height c.swap.new.x.table ≡ height c.args.tableau.now.table = ap (λ (t : NamedTableau). height t.table) c.swap.ensures.x_after ∙ entry_height c.args.basis.now c.args.tableau.now c.args.kept.now c.requires.entered in
+    let e : height c.swap.new.x.table ≡ height c.args.tableau.now.table = ap (λ (t : NamedTableau). height t.table) c.swap.ensures.x_after
+    ∙ entry_height c.args.basis.now c.args.tableau.now c.args.kept.now c.requires.entered in
     let f = c.requires.bounds in
     omega arith
 
 pub returns-clause-entered : goal.returns-clause-entered
 returns-clause-entered c =
-    λ _. entered_again c.args.basis.now c.args.tableau.now c.args.kept.now c.write_bounds.new.tableau c.turn_all.new.bounds c.requires.ready c.requires.entered (c.turn_all.ensures.bounds c.if-not-turn_all.false)
+    λ _. entered_again c.args.basis.now c.args.tableau.now c.args.kept.now c.write_bounds.new.tableau c.turn_all.new.bounds c.requires.ready c.requires.entered
+    (c.turn_all.ensures.bounds c.if-not-turn_all.false)
     (subst (λ (t : NamedTableau). HasBounds c.turn_all.new.bounds t c.write_bounds.new.tableau) c.swap.ensures.x_after c.write_bounds.ensures)

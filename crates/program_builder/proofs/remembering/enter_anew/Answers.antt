@@ -75,7 +75,8 @@ returns-in-Ok-clause-memory c =
     let v = c.start.new.self.turns in
     let w : (with_items c.start.new.self.turns c.enter_columns.new.notes).items ≡ c.enter_columns.new.notes =
     with_items_is c.start.new.self.turns c.enter_columns.new.notes (c.enter_columns.auto.notes ∙ ap length c.deref_mut.ensures.value ∙ sym c.start.new.self.turns.ok.0) in
-    let room = room_back c.args.artery.now c.args.area.now c.enter_columns.new.notes (subst (λ (s : NamedTableau). HaveRoom c.enter_columns.new.notes (height s.table + 1)) c.requires.loaded c.in-Ok.ensures.room) in
+    let room = room_back c.args.artery.now c.args.area.now c.enter_columns.new.notes
+    (subst (λ (s : NamedTableau). HaveRoom c.enter_columns.new.notes (height s.table + 1)) c.requires.loaded c.in-Ok.ensures.room) in
     let notes = subst (λ (s : NamedTableau). AreNotesOf c.args.basis.now s.table c.enter_columns.new.notes) c.requires.loaded c.in-Ok.ensures.noted in
     subst (IsMemoryOf c.args.artery.now) (sym c.keep.ensures)
     (holding c.args.artery.now c.args.area.now c.args.basis.now c.args.memory.now _ c.requires.memory
@@ -93,14 +94,16 @@ returns-in-Err-clause-outcome c =
 
 pub returns-in-Err-clause-made : goal.returns-in-Err-clause-made
 returns-in-Err-clause-made c =
-    made_on_the_way c.args.artery.now c.args.area.now c.args.basis.now c.enter_columns.new.tableau (ready c.args.artery.now c.args.area.now c.args.basis.now c.requires.basis) c.known_named.ensures.shaped
+    made_on_the_way c.args.artery.now c.args.area.now c.args.basis.now c.enter_columns.new.tableau (ready c.args.artery.now c.args.area.now c.args.basis.now c.requires.basis)
+    c.known_named.ensures.shaped
     (subst (λ (s : NamedTableau). IsSpentOnTheWay c.args.basis.now s c.enter_columns.new.tableau) c.requires.loaded c.in-Err.ensures.spent)
 
 pub returns-in-Err-clause-memory : goal.returns-in-Err-clause-memory
 returns-in-Err-clause-memory c =
     let w : (with_items c.start.new.self.turns c.enter_columns.new.notes).items ≡ c.enter_columns.new.notes =
     with_items_is c.start.new.self.turns c.enter_columns.new.notes (c.enter_columns.auto.notes ∙ ap length c.deref_mut.ensures.value ∙ sym c.start.new.self.turns.ok.0) in
-    let room = room_back c.args.artery.now c.args.area.now c.enter_columns.new.notes (subst (λ (s : NamedTableau). HaveRoom c.enter_columns.new.notes (height s.table + 1)) c.requires.loaded c.in-Err.ensures.room) in
+    let room = room_back c.args.artery.now c.args.area.now c.enter_columns.new.notes
+    (subst (λ (s : NamedTableau). HaveRoom c.enter_columns.new.notes (height s.table + 1)) c.requires.loaded c.in-Err.ensures.room) in
     forgotten c.args.artery.now c.args.memory.now _ c.requires.memory (ap (λ (m : EntryMemory). m.is_kept) c.start.ensures.rest)
     (subst (λ (ts : List Turn). HaveRoom ts (length (rows_of c.args.artery.now) + 1)) (sym w) room)
     (ap (λ (m : EntryMemory). m.bounds.len) c.start.ensures.rest)

@@ -17,7 +17,8 @@ pub enter_again-requires-clause-remembered : goal.enter_again-requires-clause-re
 enter_again-requires-clause-remembered c =
     subst (λ (ts : List Turn). IsRemembered c.args.basis.now ts c.args.tableau.now.table) (sym c.deref.ensures.value)
     (subst (λ (s : NamedTableau). IsRemembered c.args.basis.now c.args.memory.now.turns.items s.table) (sym c.requires.loaded)
-    (remembered_here c.args.artery.now c.args.area.now c.args.basis.now c.args.memory.now c.requires.basis (c.requires.memory.kept (c.is_for.ensures.kept c.if-not-is_for.false)) (c.is_for.ensures.basis c.if-not-is_for.false)))
+    (remembered_here c.args.artery.now c.args.area.now c.args.basis.now c.args.memory.now c.requires.basis (c.requires.memory.kept (c.is_for.ensures.kept c.if-not-is_for.false))
+    (c.is_for.ensures.basis c.if-not-is_for.false)))
 
 pub enter_again-requires-clause-ready : goal.enter_again-requires-clause-ready
 enter_again-requires-clause-ready c =
@@ -37,7 +38,8 @@ enter_again-requires-clause-bounds c =
 pub enter_again-requires-clause-entered : goal.enter_again-requires-clause-entered
 enter_again-requires-clause-entered c =
     subst (IsEntryOf c.args.basis.now c.args.memory.now.tableau) (sym c.requires.loaded)
-    (entry_here c.args.artery.now c.args.area.now c.args.basis.now c.args.memory.now c.requires.basis (c.requires.memory.kept (c.is_for.ensures.kept c.if-not-is_for.false)) (c.is_for.ensures.basis c.if-not-is_for.false))
+    (entry_here c.args.artery.now c.args.area.now c.args.basis.now c.args.memory.now c.requires.basis (c.requires.memory.kept (c.is_for.ensures.kept c.if-not-is_for.false))
+    (c.is_for.ensures.basis c.if-not-is_for.false))
 
 pub returns-clause-passed : goal.returns-clause-passed
 returns-clause-passed c = λ e. sym (ap (λ (s : NamedTableau). entry_refusal c.args.basis.now s.table) c.requires.loaded) ∙ c.enter_again.ensures.passed e

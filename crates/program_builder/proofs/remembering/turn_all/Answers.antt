@@ -15,7 +15,8 @@ loop-k-init c = no_turns c.args.basis.now c.args.tableau.now.table c.args.bounds
 pub turn_bounds-requires-clause-row : goal.turn_bounds-requires-clause-row
 turn_bounds-requires-clause-row c =
     let column : variable_at c.args.basis.now c.loop-k.k < width c.args.tableau.now.table = (let e = c.width-width.ensures.count in omega arith) in
-    let low = note_row c.args.basis.now c.args.turns.now c.args.tableau.now.table c.requires.remembered c.requires.ready c.loop-k.k c.index-turns-k.result c.loop-k-test.true c.if-k-turns.false column in
+    let low = note_row c.args.basis.now c.args.turns.now c.args.tableau.now.table c.requires.remembered c.requires.ready c.loop-k.k c.index-turns-k.result
+    c.loop-k-test.true c.if-k-turns.false column in
     subst (λ (t : Turn). t.row < length c.loop-k.bounds) (sym c.index-turns-k.is) (let f = c.loop-k.invariant.bounds.count in omega arith)
 
 pub turn_bounds-requires-clause-pivot : goal.turn_bounds-requires-clause-pivot

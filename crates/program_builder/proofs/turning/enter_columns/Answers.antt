@@ -25,28 +25,33 @@ same_height vs s t k r h e = sym ((ready_rows vs s.table r k h).0) ∙ sym (ap (
 
 pub turn-requires-clause-room : goal.turn-requires-clause-room
 turn-requires-clause-room c =
-    subst (λ n. HaveRoom c.loop-turns.notes (n + 1)) (same_height c.args.basis.now c.args.tableau.now c.loop-turns.tableau c.loop-turns.turns c.requires.ready (omega arith) c.loop-turns.invariant.table) c.loop-turns.invariant.room
+    subst (λ n. HaveRoom c.loop-turns.notes (n + 1)) (same_height c.args.basis.now c.args.tableau.now c.loop-turns.tableau c.loop-turns.turns c.requires.ready
+    (omega arith) c.loop-turns.invariant.table) c.loop-turns.invariant.room
 
 pub turn-requires-clause-place : goal.turn-requires-clause-place
 turn-requires-clause-place c =
     let vs = c.args.basis.now in
     let k = c.loop-turns.turns in
     let h : c.loop-turns.turns < length c.args.basis.now = omega arith in
-    subst (λ (t : Tableau). rule.variable_at c.args.basis.now c.loop-turns.turns < width t → IsPlace t (rule.entry_row c.args.basis.now t (rule.variable_at c.args.basis.now c.loop-turns.turns)) (rule.variable_at c.args.basis.now c.loop-turns.turns))
+    subst (λ (t : Tableau). rule.variable_at c.args.basis.now c.loop-turns.turns < width t
+    → IsPlace t (rule.entry_row c.args.basis.now t (rule.variable_at c.args.basis.now c.loop-turns.turns)) (rule.variable_at c.args.basis.now c.loop-turns.turns))
     (sym (ap (λ (x : NamedTableau). x.table) c.loop-turns.invariant.table)) (ready_place vs c.args.tableau.now.table c.requires.ready k h)
 
 pub returns-in-Err-clause-outcome : goal.returns-in-Err-clause-outcome
 returns-in-Err-clause-outcome c =
     let h : c.loop-turns.turns < length c.args.basis.now = omega arith in
-    sym (ap (λ o. attempt o tt) (first_refused c.args.basis.now c.args.tableau.now c.loop-turns.tableau c.loop-turns.turns c.in-Err.wide c.loop-turns.invariant.table c.loop-turns.invariant.passed (attempt_err _ _ _ c.in-Err.ensures.outcome) h))
+    sym (ap (λ o. attempt o tt) (first_refused c.args.basis.now c.args.tableau.now c.loop-turns.tableau c.loop-turns.turns c.in-Err.wide
+    c.loop-turns.invariant.table c.loop-turns.invariant.passed (attempt_err _ _ _ c.in-Err.ensures.outcome) h))
 
 pub loop-turns-preserved : goal.loop-turns-preserved
 loop-turns-preserved c = record {
   table = turned_next c.args.basis.now c.args.tableau.now c.loop-turns.tableau c.turn.new.tableau c.loop-turns.turns c.loop-turns.invariant.table c.in_default.ensures.turned;
   notes = notes_next c.args.basis.now c.args.tableau.now.table c.loop-turns.tableau.table c.loop-turns.turns c.loop-turns.notes c.turn.new.notes
       (ap (λ (x : NamedTableau). x.table) c.loop-turns.invariant.table) (omega arith) c.loop-turns.invariant.notes c.in_default.ensures.others c.in_default.ensures.noted;
-  room = subst (λ n. HaveRoom c.turn.new.notes (n + 1)) (sym (same_height c.args.basis.now c.args.tableau.now c.loop-turns.tableau c.loop-turns.turns c.requires.ready (omega arith) c.loop-turns.invariant.table)) c.in_default.ensures.room;
-  passed = passed_next c.args.basis.now c.args.tableau.now c.loop-turns.tableau c.loop-turns.turns c.loop-turns.invariant.table c.loop-turns.invariant.passed (attempt_ok _ _ _ c.in_default.ensures.outcome).0;
+  room = subst (λ n. HaveRoom c.turn.new.notes (n + 1))
+      (sym (same_height c.args.basis.now c.args.tableau.now c.loop-turns.tableau c.loop-turns.turns c.requires.ready (omega arith) c.loop-turns.invariant.table)) c.in_default.ensures.room;
+  passed = passed_next c.args.basis.now c.args.tableau.now c.loop-turns.tableau c.loop-turns.turns c.loop-turns.invariant.table c.loop-turns.invariant.passed
+      (attempt_ok _ _ _ c.in_default.ensures.outcome).0;
 }
 
 pub returns-clause-outcome : goal.returns-clause-outcome
@@ -61,7 +66,8 @@ returns-clause-entered c =
 
 pub returns-in-Err-clause-room : goal.returns-in-Err-clause-room
 returns-in-Err-clause-room c =
-    subst (λ n. HaveRoom c.turn.new.notes (n + 1)) (sym (same_height c.args.basis.now c.args.tableau.now c.loop-turns.tableau c.loop-turns.turns c.requires.ready (omega arith) c.loop-turns.invariant.table)) c.in-Err.ensures.room
+    subst (λ n. HaveRoom c.turn.new.notes (n + 1))
+    (sym (same_height c.args.basis.now c.args.tableau.now c.loop-turns.tableau c.loop-turns.turns c.requires.ready (omega arith) c.loop-turns.invariant.table)) c.in-Err.ensures.room
 
 pub returns-clause-noted : goal.returns-clause-noted
 returns-clause-noted c =

@@ -1,4 +1,7 @@
-use Rattle.progression.proofs.WorkedLemmas.{whole_greens, their_band, too_wide, in_the_red, line_at_red, too_long, too_fast, late_for_clearance, lagging_left, leading_lefts, half_a_cycle, first_pattern, first_pattern_wider_out, second_pattern, second_pattern_wider_in, third_pattern, third_pattern_sooner_out, third_pattern_sooner_in, fourth_pattern, fourth_pattern_wider_out, fourth_pattern_wider_in}
+use Rattle.progression.proofs.WorkedLemmas.{whole_greens, their_band, too_wide, in_the_red, line_at_red, too_long, too_fast, late_for_clearance}
+use Rattle.progression.proofs.WorkedLemmas.{lagging_left, leading_lefts, half_a_cycle, first_pattern, first_pattern_wider_out, second_pattern}
+use Rattle.progression.proofs.WorkedLemmas.{second_pattern_wider_in, third_pattern, third_pattern_sooner_out, third_pattern_sooner_in, fourth_pattern}
+use Rattle.progression.proofs.WorkedLemmas.{fourth_pattern_wider_out, fourth_pattern_wider_in}
 use Rattle.progression.proofs.worked.law_worked_timings.Goals as goal
 
 pub returns : goal.returns

@@ -6,11 +6,10 @@ use link_proof::{LinkCertificate, LinkReject, link_check, read_links};
 use link_space::LinkFailing;
 use named_row::{Place, RowId, WideAt};
 use narrow_fraction::{Frac, Op, Wide};
-use sample_streets::plain_head;
 use std::alloc::{AllocError, Global};
 use std::rt::HostRuntime;
 use std::test::Fail;
-use test_bed::{fraction, two_signals};
+use test_bed::{fraction, plain_head, two_signals};
 
 /// Bands that fill the greens.
 const FULL: &str =

@@ -4,10 +4,12 @@
 use artery_model::Artery;
 use link_space::{LinkFailing, LinkTiming, link_holds, link_value};
 use narrow_fraction::Frac;
-use sample_streets::{SampleLink, SampleSignal, plain_link, plain_signal, sample_street};
 use std::alloc::{AllocError, Global};
 use std::test::Fail;
-use test_bed::{Reader, Record, all_told, fraction, with_ratio};
+use test_bed::{
+    Reader, Record, SampleLink, SampleSignal, all_told, fraction, plain_link, plain_signal,
+    sample_street, with_ratio,
+};
 use time_space::LIMIT;
 
 /// Two signals: the inbound bands count so many halves; the red in parts, the left turns and the clearance are those of signal 2.

@@ -8,14 +8,14 @@ use artery_model::Artery;
 use loop_rows::{block_sum, fill_row, next_row};
 use named_row::{Place, Point, Row, RowId};
 use narrow_fraction::Frac;
-use sample_streets::{
-    SampleHead, SampleLink, SampleSignal, plain_head, plain_signal, range, sample_street,
-};
 use search_box::SearchBox;
 use std::alloc::Global;
 use std::rt::HostRuntime;
 use std::test::Fail;
-use test_bed::{fraction_or_zero, paced_link};
+use test_bed::{
+    SampleHead, SampleLink, SampleSignal, fraction_or_zero, paced_link, plain_head, plain_signal,
+    range, sample_street,
+};
 
 /// The columns are b_out, b_in, z, w_out 1 to 3, w_in 1 to 3, y_out 1 and 2, y_in 1 and 2, s 1 to 3.
 const WIDTH: u32 = 16;

@@ -8,12 +8,11 @@ use artery_model::Artery;
 use loop_rows::{SumFault, leaf_sum};
 use named_row::{Place, Row, RowId, Weight, WideAt};
 use narrow_fraction::{Frac, Op, Wide};
-use sample_streets::plain_head;
 use search_box::SearchBox;
 use std::alloc::Global;
 use std::rt::HostRuntime;
 use std::test::Fail;
-use test_bed::{fraction, two_signals};
+use test_bed::{fraction, plain_head, two_signals};
 
 const TWO_100: i128 = 1_267_650_600_228_229_401_496_703_205_376;
 

@@ -8,12 +8,11 @@ use artery_model::Artery;
 use loop_rows::{block_sum, fill_goal, fill_row, next_row};
 use named_row::{Place, Point, Row, RowId};
 use narrow_fraction::Frac;
-use sample_streets::SampleHead;
 use search_box::SearchBox;
 use std::alloc::Global;
 use std::rt::HostRuntime;
 use std::test::Fail;
-use test_bed::{fraction_or_zero, two_signals, with_ratio};
+use test_bed::{SampleHead, fraction_or_zero, two_signals, with_ratio};
 
 /// All rows of the root box, whose link has the block sums 0 to 2 and whose signals have the shift 0.
 static ROOT_ROWS: [&str; 16] = [

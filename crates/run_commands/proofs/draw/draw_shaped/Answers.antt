@@ -7,7 +7,7 @@ returns c =
     record {
       finds = (
         Some text,
-        (text, refl, record { shape = c.requires; broken = c.broken.result; broken_is = c.broken.ensures; lines_are = c.in_ok-lines.ensures; text_is = c.in_ok-bytes.ensures }),
+        (text, refl, record { shape = c.requires; broken = c.broken.result; judged = c.broken.ensures; lines_are = c.in_ok-lines.ensures; text_is = c.in_ok-bytes.ensures }),
         refl,
       );
     }

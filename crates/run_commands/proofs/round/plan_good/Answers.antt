@@ -16,7 +16,8 @@ returns-in-Ok c =
     record { valid = c.known_valid.ensures; accepted = c.requires.accepted; timing_is = refl; good = c.requires.good; claim_is = claim_is } in
     let bounded = claim_bounds c.args.artery.now c.args.certificate.now.claim c.args.certificate.now.timing c.in-Some.claim claim_is c.requires.claim in
     record {
-      finds = from_told c.args.artery.now c.args.certificate.now (Some c.args.timing.now) c.args.timing.now c.in-Some.claim certified c.in-Ok.plan c.args.name.now c.tell_plan.result c.in-Ok.ensures.plan
+      finds = from_told c.args.artery.now c.args.certificate.now (Some c.args.timing.now) c.args.timing.now c.in-Some.claim certified c.in-Ok.plan
+          c.args.name.now c.tell_plan.result c.in-Ok.ensures.plan
           c.in-Ok.ensures.best (c.in-Ok.ensures.loss bounded) c.tell_plan.ensures;
     }
 

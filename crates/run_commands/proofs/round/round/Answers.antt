@@ -14,7 +14,8 @@ returns-in-Ok c =
     record { valid = c.known_valid.ensures; accepted = c.in_default.ensures.accepted; timing_is = timing_is; good = good; claim_is = claim_is } in
     let bounded = claim_bounds c.args.artery.now c.args.certificate.now.claim c.args.certificate.now.timing c.in-Some-Some.claim claim_is c.in_default.ensures.holds in
     record {
-      finds = round_told c.args.artery.now c.args.certificate.now c.in-Some-Some.timing c.in-Some-Some.claim certified c.in-Ok.plan c.args.name.now c.tell_plan.result c.in-Ok.ensures.plan c.in-Ok.ensures.best
+      finds = round_told c.args.artery.now c.args.certificate.now c.in-Some-Some.timing c.in-Some-Some.claim certified c.in-Ok.plan c.args.name.now
+          c.tell_plan.result c.in-Ok.ensures.plan c.in-Ok.ensures.best
           (c.in-Ok.ensures.loss bounded) c.tell_plan.ensures;
     }
 

@@ -5,5 +5,6 @@ use Rattle.second_plan.proofs.grid.reds.Goals as goal
 
 pub returns : goal.returns
 returns c =
-    let taken = items_from_extend c.extend.result c.extend.ensures.ran (YieldsList-from_map _ (λ n. n * c.args.grid) (YieldsList-from_slice c.args.offsets.now cc) c.map.ensures.closure (λ x r q k. search rules)) in
+    let taken = items_from_extend c.extend.result c.extend.ensures.ran (YieldsList-from_map _ (λ n. n * c.args.grid) (YieldsList-from_slice c.args.offsets.now cc)
+    c.map.ensures.closure (λ x r q k. search rules)) in
     search rules

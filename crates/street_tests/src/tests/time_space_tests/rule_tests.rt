@@ -2,10 +2,9 @@
 
 use super::streets::{artery, parts_of, signal, street_of, street_text, street_with, timing};
 use artery_model::Artery;
-use sample_streets::{SampleLink, plain_link, range};
 use std::alloc::{AllocError, Global};
 use std::test::Fail;
-use test_bed::{Reader, Record, all_told};
+use test_bed::{Reader, Record, SampleLink, all_told, plain_link, range};
 use time_space::{Failing, Timing, base_holds, holds};
 
 /// Changes of `street_text`, and the first rule that is broken.

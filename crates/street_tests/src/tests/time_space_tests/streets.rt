@@ -4,10 +4,12 @@ pub use crate::tests::given::timing;
 use crate::tests::given::{four, pair, street, two};
 use artery_model::{Artery, Pair};
 use narrow_fraction::Frac;
-use sample_streets::{SampleHead, SampleLink, SampleSignal, plain_head, plain_link, plain_signal};
 use std::alloc::{AllocError, Global};
 use std::test::Fail;
-use test_bed::{Record, WHOLE_GREEN, with_changes};
+use test_bed::{
+    Record, SampleHead, SampleLink, SampleSignal, WHOLE_GREEN, plain_head, plain_link,
+    plain_signal, with_changes,
+};
 
 /// Two signals 500 metres apart, and bands as wide as their greens. The inbound band counts so many halves, least bands are so many
 /// tenths of the cycle; the red in parts, the lefts and the clearance are those of signal 2. A part has two ticks.

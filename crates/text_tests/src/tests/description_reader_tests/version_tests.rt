@@ -123,7 +123,7 @@ fn read_back(alloc: Global, artery: &Artery) -> Option<Artery> {
 
 /// Whether the version is the second, the least bands are a quarter and 0, and the bands have to be equal.
 fn has_second_keys(artery: &Artery) -> bool {
-    artery.version() == 2
+    artery.head().version == 2
         && artery.least_band(Dir::Outbound) == fraction_or_zero(1, 4)
         && artery.least_band(Dir::Inbound) == Frac::whole(0)
         && artery.equal()
@@ -165,6 +165,6 @@ fn second_version_has_all_keys_printed(rt: HostRuntime) -> Result<(), Fail> {
 #[test]
 fn first_version_has_no_new_keys_printed(rt: HostRuntime) -> Result<(), Fail> {
     let artery = read(rt.alloc(), PLAIN_STREET.as_bytes())?;
-    assert!(rt; artery.version() == 1);
+    assert!(rt; artery.head().version == 1);
     look_at(rt.alloc(), &artery, &["version = 1"], &["least", "equal"])
 }

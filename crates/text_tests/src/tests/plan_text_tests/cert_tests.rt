@@ -154,7 +154,7 @@ static CHANGED_OPEN: [&str; 14] = [
 ];
 
 /// The same for the text that lists its rows.
-static REFUSED_LISTED: [&str; 57] = [
+static REFUSED_LISTED: [&str; 62] = [
     "1 maxband-certificate 3 -> 1 Shape",
     "1 maxband-certificate 1 -> 12 Shape",
     "12 rows -> 12 Shape",
@@ -192,6 +192,10 @@ static REFUSED_LISTED: [&str; 57] = [
     "29 plain 1 7 -> 29 Shape",
     "29 plain 7 -> 36 Number",
     "29 leaf 2 7\n2 2\n4 2\n5 2\n6 2\n9 100\n12 2\n14 2 -> 36 Number",
+    "29 leaf 2 7\n2 2\n4 2\n5 2\n6 2\n9 100\n12 2\n12 2 -> 36 Number",
+    "29 plain 7\n2 1\n4 1\n5 1\n6 1\n9 50\n12 1\n12 1 -> 36 Number",
+    "29 leaf 2 7\n2 2\n4 2\n5 2\n6 2\n9 100\n9 2\n14 2 -> 35 Order",
+    "29 leaf 2 7\n2 2\n4 2\n5 2\n6 2\n9 100\n12 2\n12 2 2 -> 36 Shape",
     "30 0 1 -> 30 Number",
     "30 15 1 -> 30 Number",
     "30 18446744073709551616 1 -> 30 Number",
@@ -207,6 +211,7 @@ static REFUSED_LISTED: [&str; 57] = [
     "31 2 1 -> 31 Order",
     "31 1 1 -> 31 Order",
     "31 1 x -> 31 Number",
+    "36 12 1 -> 36 Order",
     "36 13 1 -> 45 Shape",
     "45 leaf 1 0 -> 45 Shape",
     "45 end  -> 45 Shape",

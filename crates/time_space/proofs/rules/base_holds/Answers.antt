@@ -19,10 +19,12 @@ returns-in_err-check_patterns-clause-refused c =
     (not_base _ _ _ c.in_err-check_patterns.ensures.first c.in_err-check_patterns.ensures.order)
 
 pub returns-in_err-check_patterns-clause-first : goal.returns-in_err-check_patterns-clause-first
-returns-in_err-check_patterns-clause-first c = let p = err_from_is_err_and c.from_residual-in_err-check_patterns.result c.from_residual-in_err-check_patterns.ensures.1 in rw (p.1, p.2) c.in_err-check_patterns.ensures.first
+returns-in_err-check_patterns-clause-first c = let p = err_from_is_err_and c.from_residual-in_err-check_patterns.result c.from_residual-in_err-check_patterns.ensures.1 in
+    rw (p.1, p.2) c.in_err-check_patterns.ensures.first
 
 pub returns-in_err-check_patterns-clause-order : goal.returns-in_err-check_patterns-clause-order
-returns-in_err-check_patterns-clause-order c = let p = err_from_is_err_and c.from_residual-in_err-check_patterns.result c.from_residual-in_err-check_patterns.ensures.1 in rw (p.1, p.2) c.in_err-check_patterns.ensures.order
+returns-in_err-check_patterns-clause-order c = let p = err_from_is_err_and c.from_residual-in_err-check_patterns.result c.from_residual-in_err-check_patterns.ensures.1 in
+    rw (p.1, p.2) c.in_err-check_patterns.ensures.order
 
 pub returns-in_err-check_cycle_least-clause-refused : goal.returns-in_err-check_cycle_least-clause-refused
 returns-in_err-check_cycle_least-clause-refused c =
@@ -30,10 +32,12 @@ returns-in_err-check_cycle_least-clause-refused c =
     (not_base _ _ _ c.in_err-check_cycle_least.ensures.first c.in_err-check_cycle_least.ensures.order)
 
 pub returns-in_err-check_cycle_least-clause-first : goal.returns-in_err-check_cycle_least-clause-first
-returns-in_err-check_cycle_least-clause-first c = let p = err_from_is_err_and c.from_residual-in_err-check_cycle_least.result c.from_residual-in_err-check_cycle_least.ensures.1 in rw (p.1, p.2) c.in_err-check_cycle_least.ensures.first
+returns-in_err-check_cycle_least-clause-first c = let p = err_from_is_err_and c.from_residual-in_err-check_cycle_least.result c.from_residual-in_err-check_cycle_least.ensures.1 in
+    rw (p.1, p.2) c.in_err-check_cycle_least.ensures.first
 
 pub returns-in_err-check_cycle_least-clause-order : goal.returns-in_err-check_cycle_least-clause-order
-returns-in_err-check_cycle_least-clause-order c = let p = err_from_is_err_and c.from_residual-in_err-check_cycle_least.result c.from_residual-in_err-check_cycle_least.ensures.1 in rw (p.1, p.2) c.in_err-check_cycle_least.ensures.order
+returns-in_err-check_cycle_least-clause-order c = let p = err_from_is_err_and c.from_residual-in_err-check_cycle_least.result c.from_residual-in_err-check_cycle_least.ensures.1 in
+    rw (p.1, p.2) c.in_err-check_cycle_least.ensures.order
 
 pub returns-in_err-check_cycle_most-clause-refused : goal.returns-in_err-check_cycle_most-clause-refused
 returns-in_err-check_cycle_most-clause-refused c =
@@ -41,10 +45,12 @@ returns-in_err-check_cycle_most-clause-refused c =
     (not_base _ _ _ c.in_err-check_cycle_most.ensures.first c.in_err-check_cycle_most.ensures.order)
 
 pub returns-in_err-check_cycle_most-clause-first : goal.returns-in_err-check_cycle_most-clause-first
-returns-in_err-check_cycle_most-clause-first c = let p = err_from_is_err_and c.from_residual-in_err-check_cycle_most.result c.from_residual-in_err-check_cycle_most.ensures.1 in rw (p.1, p.2) c.in_err-check_cycle_most.ensures.first
+returns-in_err-check_cycle_most-clause-first c = let p = err_from_is_err_and c.from_residual-in_err-check_cycle_most.result c.from_residual-in_err-check_cycle_most.ensures.1 in
+    rw (p.1, p.2) c.in_err-check_cycle_most.ensures.first
 
 pub returns-in_err-check_cycle_most-clause-order : goal.returns-in_err-check_cycle_most-clause-order
-returns-in_err-check_cycle_most-clause-order c = let p = err_from_is_err_and c.from_residual-in_err-check_cycle_most.result c.from_residual-in_err-check_cycle_most.ensures.1 in rw (p.1, p.2) c.in_err-check_cycle_most.ensures.order
+returns-in_err-check_cycle_most-clause-order c = let p = err_from_is_err_and c.from_residual-in_err-check_cycle_most.result c.from_residual-in_err-check_cycle_most.ensures.1 in
+    rw (p.1, p.2) c.in_err-check_cycle_most.ensures.order
 
 pub returns-in_err-check_links-clause-refused : goal.returns-in_err-check_links-clause-refused
 returns-in_err-check_links-clause-refused c =
@@ -52,10 +58,12 @@ returns-in_err-check_links-clause-refused c =
     (not_base _ _ _ c.in_err-check_links.ensures.first c.in_err-check_links.ensures.order)
 
 pub returns-in_err-check_links-clause-first : goal.returns-in_err-check_links-clause-first
-returns-in_err-check_links-clause-first c = let p = err_from_is_err_and c.from_residual-in_err-check_links.result c.from_residual-in_err-check_links.ensures.1 in rw (p.1, p.2) c.in_err-check_links.ensures.first
+returns-in_err-check_links-clause-first c = let p = err_from_is_err_and c.from_residual-in_err-check_links.result c.from_residual-in_err-check_links.ensures.1 in
+    rw (p.1, p.2) c.in_err-check_links.ensures.first
 
 pub returns-in_err-check_links-clause-order : goal.returns-in_err-check_links-clause-order
-returns-in_err-check_links-clause-order c = let p = err_from_is_err_and c.from_residual-in_err-check_links.result c.from_residual-in_err-check_links.ensures.1 in rw (p.1, p.2) c.in_err-check_links.ensures.order
+returns-in_err-check_links-clause-order c = let p = err_from_is_err_and c.from_residual-in_err-check_links.result c.from_residual-in_err-check_links.ensures.1 in
+    rw (p.1, p.2) c.in_err-check_links.ensures.order
 
 pub returns-in_err-check_links-2-clause-refused : goal.returns-in_err-check_links-2-clause-refused
 returns-in_err-check_links-2-clause-refused c =
@@ -63,10 +71,12 @@ returns-in_err-check_links-2-clause-refused c =
     (not_base _ _ _ c.in_err-check_links-2.ensures.first c.in_err-check_links-2.ensures.order)
 
 pub returns-in_err-check_links-2-clause-first : goal.returns-in_err-check_links-2-clause-first
-returns-in_err-check_links-2-clause-first c = let p = err_from_is_err_and c.from_residual-in_err-check_links-2.result c.from_residual-in_err-check_links-2.ensures.1 in rw (p.1, p.2) c.in_err-check_links-2.ensures.first
+returns-in_err-check_links-2-clause-first c = let p = err_from_is_err_and c.from_residual-in_err-check_links-2.result c.from_residual-in_err-check_links-2.ensures.1 in
+    rw (p.1, p.2) c.in_err-check_links-2.ensures.first
 
 pub returns-in_err-check_links-2-clause-order : goal.returns-in_err-check_links-2-clause-order
-returns-in_err-check_links-2-clause-order c = let p = err_from_is_err_and c.from_residual-in_err-check_links-2.result c.from_residual-in_err-check_links-2.ensures.1 in rw (p.1, p.2) c.in_err-check_links-2.ensures.order
+returns-in_err-check_links-2-clause-order c = let p = err_from_is_err_and c.from_residual-in_err-check_links-2.result c.from_residual-in_err-check_links-2.ensures.1 in
+    rw (p.1, p.2) c.in_err-check_links-2.ensures.order
 
 pub returns-in_err-check_links-3-clause-refused : goal.returns-in_err-check_links-3-clause-refused
 returns-in_err-check_links-3-clause-refused c =
@@ -74,10 +84,12 @@ returns-in_err-check_links-3-clause-refused c =
     (not_base _ _ _ c.in_err-check_links-3.ensures.first c.in_err-check_links-3.ensures.order)
 
 pub returns-in_err-check_links-3-clause-first : goal.returns-in_err-check_links-3-clause-first
-returns-in_err-check_links-3-clause-first c = let p = err_from_is_err_and c.from_residual-in_err-check_links-3.result c.from_residual-in_err-check_links-3.ensures.1 in rw (p.1, p.2) c.in_err-check_links-3.ensures.first
+returns-in_err-check_links-3-clause-first c = let p = err_from_is_err_and c.from_residual-in_err-check_links-3.result c.from_residual-in_err-check_links-3.ensures.1 in
+    rw (p.1, p.2) c.in_err-check_links-3.ensures.first
 
 pub returns-in_err-check_links-3-clause-order : goal.returns-in_err-check_links-3-clause-order
-returns-in_err-check_links-3-clause-order c = let p = err_from_is_err_and c.from_residual-in_err-check_links-3.result c.from_residual-in_err-check_links-3.ensures.1 in rw (p.1, p.2) c.in_err-check_links-3.ensures.order
+returns-in_err-check_links-3-clause-order c = let p = err_from_is_err_and c.from_residual-in_err-check_links-3.result c.from_residual-in_err-check_links-3.ensures.1 in
+    rw (p.1, p.2) c.in_err-check_links-3.ensures.order
 
 pub returns-in_err-check_links-4-clause-refused : goal.returns-in_err-check_links-4-clause-refused
 returns-in_err-check_links-4-clause-refused c =
@@ -85,10 +97,12 @@ returns-in_err-check_links-4-clause-refused c =
     (not_base _ _ _ c.in_err-check_links-4.ensures.first c.in_err-check_links-4.ensures.order)
 
 pub returns-in_err-check_links-4-clause-first : goal.returns-in_err-check_links-4-clause-first
-returns-in_err-check_links-4-clause-first c = let p = err_from_is_err_and c.from_residual-in_err-check_links-4.result c.from_residual-in_err-check_links-4.ensures.1 in rw (p.1, p.2) c.in_err-check_links-4.ensures.first
+returns-in_err-check_links-4-clause-first c = let p = err_from_is_err_and c.from_residual-in_err-check_links-4.result c.from_residual-in_err-check_links-4.ensures.1 in
+    rw (p.1, p.2) c.in_err-check_links-4.ensures.first
 
 pub returns-in_err-check_links-4-clause-order : goal.returns-in_err-check_links-4-clause-order
-returns-in_err-check_links-4-clause-order c = let p = err_from_is_err_and c.from_residual-in_err-check_links-4.result c.from_residual-in_err-check_links-4.ensures.1 in rw (p.1, p.2) c.in_err-check_links-4.ensures.order
+returns-in_err-check_links-4-clause-order c = let p = err_from_is_err_and c.from_residual-in_err-check_links-4.result c.from_residual-in_err-check_links-4.ensures.1 in
+    rw (p.1, p.2) c.in_err-check_links-4.ensures.order
 
 pub returns-clause-base : goal.returns-clause-base
 returns-clause-base c = record {

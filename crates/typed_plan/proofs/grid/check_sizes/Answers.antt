@@ -14,7 +14,8 @@ returns-in_err-check_runs-clause-first c =
     let last = a.head.parts * least_unit a p ∷ [] in
     let q = err_from_is_err_and c.from_residual-in_err-check_runs.result c.from_residual-in_err-check_runs.ensures.1 in
     rw (q.1, q.2)
-    (skip_one (least_grid a p) (runs a p Outbound ++ (runs a p Inbound ++ last)) grid ∙ stop (runs a p Outbound) (runs a p Inbound ++ last) c.in_err-check_runs.field-0.0 c.in_err-check_runs.ensures.first)
+    (skip_one (least_grid a p) (runs a p Outbound ++ (runs a p Inbound ++ last)) grid ∙ stop (runs a p Outbound) (runs a p Inbound ++ last)
+    c.in_err-check_runs.field-0.0 c.in_err-check_runs.ensures.first)
 
 pub returns-in_err-check_runs-2-clause-first : goal.returns-in_err-check_runs-2-clause-first
 returns-in_err-check_runs-2-clause-first c =

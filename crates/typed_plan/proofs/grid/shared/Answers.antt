@@ -6,7 +6,8 @@ pub returns-in_err-with_offsets-clause-first : goal.returns-in_err-with_offsets-
 returns-in_err-with_offsets-clause-first c =
     let q = err_from_is_err_and c.from_residual-in_err-with_offsets.result c.from_residual-in_err-with_offsets.ensures.1 in
     rw (q.1, q.2)
-    (first_offset c.args.artery.now c.args.plan.now c.in_ok-with_part.with_part c.in_ok-with_part.ensures.value c.in_ok-with_part.ensures.none c.in_err-with_offsets.field-0.0 c.in_err-with_offsets.ensures.first)
+    (first_offset c.args.artery.now c.args.plan.now c.in_ok-with_part.with_part c.in_ok-with_part.ensures.value c.in_ok-with_part.ensures.none
+    c.in_err-with_offsets.field-0.0 c.in_err-with_offsets.ensures.first)
 
 pub returns-in_err-with_out-clause-first : goal.returns-in_err-with_out-clause-first
 returns-in_err-with_out-clause-first c =

@@ -8,4 +8,5 @@ pub returns-clause-value : goal.returns-clause-value
 returns-clause-value c =
     let num : FitsSigned w128 c.num.result = search rules in
     let den : FitsSigned w128 c.den.result = search rules in
-    c.reduced.ensures.value ∙ rw (to_z-of_z w128 c.num.result num, c.num.ensures.value, c.from.ensures, c.unsigned_abs.ensures.value, to_z-of_z w128 c.den.result den, c.den.ensures.value) (over_whole c.args.quantity c.args.by c.requires.by)
+    c.reduced.ensures.value ∙ rw (to_z-of_z w128 c.num.result num, c.num.ensures.value, c.from.ensures, c.unsigned_abs.ensures.value, to_z-of_z w128 c.den.result den, c.den.ensures.value)
+    (over_whole c.args.quantity c.args.by c.requires.by)

@@ -6,5 +6,6 @@ use Rattle.workload_maker.proofs.artery.links_of.Goals as goal
 
 pub returns : goal.returns
 returns c =
-    let taken = items_from_extend c.extend.result c.extend.ensures.ran (YieldsList-from_map _ link_with (YieldsList-from_slice c.args.distances.now cc) c.map.ensures.closure (λ x r q k. search rules)) in
+    let taken = items_from_extend c.extend.result c.extend.ensures.ran (YieldsList-from_map _ link_with (YieldsList-from_slice c.args.distances.now cc)
+    c.map.ensures.closure (λ x r q k. search rules)) in
     search rules

@@ -9,7 +9,16 @@ use Rattle.fraction_tableau.proofs.sparse_row.SparseRow.clear_fractions.Goals as
 pub clear_row-made-requires : goal.clear_row-made-requires
 clear_row-made-requires c =
     let wide = (open_row _ _ _ _ _ c.self.invariant.0 c.self.view_is).wide in
-    record { width = omega (arith, wide, c.requires.width, ap length c.deref_mut.ensures.value); widths = c.requires.widths; place = c.requires.place; pivot = c.requires.pivot; factor = c.requires.factor; own = c.requires.own; short = c.requires.short; narrow = c.requires.narrow }
+    record {
+      width = omega (arith, wide, c.requires.width, ap length c.deref_mut.ensures.value);
+      widths = c.requires.widths;
+      place = c.requires.place;
+      pivot = c.requires.pivot;
+      factor = c.requires.factor;
+      own = c.requires.own;
+      short = c.requires.short;
+      narrow = c.requires.narrow;
+    }
 
 pub returns : goal.returns
 returns c =

@@ -19,11 +19,18 @@ use Rattle.fraction_tableau.proofs.sparse_row.SparseRow.clear_narrow.Goals as go
 use Rattle.fraction_tableau.proofs.sparse_row.SparseRow.clear_narrow.Goals.{After-deref_mut, After-row, After-join-made, After-joined-self-inside}
 
 -- the other rows are as wide as this one, the pivot's place is one of its places, and the factor is the row's number there
-wide : (c : After-deref_mut) → (length c.args.row.now ≡ length c.self.inside.cells.items + 1) × ((c.in-Some.joining.place < length c.self.inside.cells.items) × (factor_of c.in-Some.joining ≡ number_in c.args.row.now c.in-Some.joining.place))
+wide : (c : After-deref_mut) → (length c.args.row.now ≡ length c.self.inside.cells.items + 1) × ((c.in-Some.joining.place < length c.self.inside.cells.items)
+    × (factor_of c.in-Some.joining ≡ number_in c.args.row.now c.in-Some.joining.place))
 wide c =
     let opened = open_row _ _ _ _ _ c.self.invariant.0 c.self.view_is in
-    let same = opened.wide in
-    (omega (arith, c.requires.width), (omega (arith, same, c.requires.width, c.requires.place, c.in-Some.ensures.place), c.in-Some.ensures.factor ∙ c.requires.factor ∙ ap (number_in c.args.row.now) (sym c.in-Some.ensures.place)))
+    let same = opened.wide in (
+      omega (arith, c.requires.width),
+      (
+        omega (arith, same, c.requires.width, c.requires.place, c.in-Some.ensures.place),
+        c.in-Some.ensures.factor
+            ∙ c.requires.factor ∙ ap (number_in c.args.row.now) (sym c.in-Some.ensures.place),
+      ),
+    )
 
 -- the cells that were written
 written : (c : After-join-made) → length c.join-made.new.cells ≡ length c.self.inside.cells.items
@@ -67,8 +74,11 @@ joined-self-inside-requires-clause-turned c =
     subst (IsOver j.turned.denominator j.turned.most) (sym q.bound) (c.in-Some.ensures.turned.numbers (length c.turned.inside.cells.items))
 
 -- the row that is made
-made : (c : After-joined-self-inside) (items : List Kept) → (length c.args.row.now ≡ length c.self.inside.cells.items + 1) × ((c.in-Some.joining.place < length c.self.inside.cells.items) × (factor_of c.in-Some.joining ≡ number_in c.args.row.now c.in-Some.joining.place)) → length c.join-made.new.cells ≡ length c.self.inside.cells.items → items ≡ c.join-made.new.cells
-    → IsSparse (length items) c.join-made.result.made (take c.join-made.result.made items) × (dense_row (length items) (take c.join-made.result.made items) c.joined-self-inside.result ≡ cleared c.in-Some.joining.place c.args.turned.now c.args.row.now)
+made : (c : After-joined-self-inside) (items : List Kept) → (length c.args.row.now ≡ length c.self.inside.cells.items + 1)
+    × ((c.in-Some.joining.place < length c.self.inside.cells.items) × (factor_of c.in-Some.joining ≡ number_in c.args.row.now c.in-Some.joining.place))
+    → length c.join-made.new.cells ≡ length c.self.inside.cells.items → items ≡ c.join-made.new.cells
+    → IsSparse (length items) c.join-made.result.made (take c.join-made.result.made items)
+    × (dense_row (length items) (take c.join-made.result.made items) c.joined-self-inside.result ≡ cleared c.in-Some.joining.place c.args.turned.now c.args.row.now)
 made c items g len same =
     let j = c.in-Some.joining in
     let d = c.args.row.now in
@@ -84,7 +94,8 @@ made c items g len same =
     let f = fits_i64 (numerator j.row.denominator c.row.inside.bound) (omega (arith, o.size, c.in-Some.ensures.row.short)) in
     let v = (simp (c.numerator_of-own.ensures, f, to_z-of_z) at c.joined-self-inside.ensures) ∙ ap (λ u. u +ℚ neg_ℚ (factor_of j *ℚ c.turned.inside.bound)) o.same in
     let b = cleared_last j.place w e d c.joined-self-inside.result (factor_of j) c.row.inside.bound c.turned.inside.bound g.1.0 g.1.1 x y v in
-    sparse_new (cleared j.place e d) items c.join-made.new.cells w c.join-made.result.made (number_in (cleared j.place e d)) c.joined-self-inside.result same len (length-cleared j.place e d (sym c.requires.widths) ∙ g.0) high k (λ _ _. refl) b
+    sparse_new (cleared j.place e d) items c.join-made.new.cells w c.join-made.result.made (number_in (cleared j.place e d)) c.joined-self-inside.result
+    same len (length-cleared j.place e d (sym c.requires.widths) ∙ g.0) high k (λ _ _. refl) b
 
 -- its numbers stand over the new denominator
 scaled : (c : After-deref_mut) → (k : ℕ) → IsOver c.in-Some.joining.rescaling.to c.in-Some.joining.most (number_in (cleared c.in-Some.joining.place c.args.turned.now c.args.row.now) k)
@@ -99,8 +110,14 @@ invariant_of-self c =
     let j = c.in-Some.joining in
     let len = written at.After-join-made in
     let same = with_items_is c.self.inside.cells c.join-made.new.cells (len ∙ sym c.self.inside.cells.ok.0) in
-    let m = made at.After-joined-self-inside _ (wide at.After-deref_mut) len same in
-    (m.0, (subst (HasScale c.scale-self-inside.result) (sym m.1) (scale_joined c.scale-self-inside.result j _ c.scale-self-inside.ensures c.in-Some.ensures.joining (scaled at.After-deref_mut)), subst (λ (t : List Kept). AreMarked c.join-made.result.marks (take c.join-made.result.made t)) (sym same) c.join-made.ensures.marked))
+    let m = made at.After-joined-self-inside _ (wide at.After-deref_mut) len same in (
+      m.0,
+      (
+        subst (HasScale c.scale-self-inside.result) (sym m.1) (scale_joined c.scale-self-inside.result j _ c.scale-self-inside.ensures
+            c.in-Some.ensures.joining (scaled at.After-deref_mut)),
+        subst (λ (t : List Kept). AreMarked c.join-made.result.marks (take c.join-made.result.made t)) (sym same) c.join-made.ensures.marked,
+      ),
+    )
 
 pub returns-clause-passed : goal.returns-clause-passed
 returns-clause-passed c =

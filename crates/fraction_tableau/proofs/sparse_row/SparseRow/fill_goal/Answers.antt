@@ -28,7 +28,8 @@ written c =
     c.fill_goal-self-inside.auto.cells ∙ ap length c.deref_mut.ensures.value
 
 -- the row that is made
-made : (c : After-of_fraction-self-inside) (items : List Kept) → items ≡ c.fill_goal-self-inside.new.cells → IsFilled items c.fill_goal-self-inside.result c.of_fraction-self-inside.result (goal_cells c.args.from.now)
+made : (c : After-of_fraction-self-inside) (items : List Kept) → items ≡ c.fill_goal-self-inside.new.cells
+    → IsFilled items c.fill_goal-self-inside.result c.of_fraction-self-inside.result (goal_cells c.args.from.now)
 unfolding at_place
 made c items same =
     let w = length c.self.inside.cells.items in
@@ -37,17 +38,25 @@ made c items same =
     let k = c.fill_goal-self-inside.ensures.cells ∙ ap (λ t. kept_below (λ m. neg_ℚ (number_in c.args.from.now.coefs m)) (length t)) c.deref_mut.ensures.value in
     let high : c.fill_goal-self-inside.result ≤ w = omega (arith, c.fill_goal-self-inside.ensures.count, ap length c.deref_mut.ensures.value) in
     let len = c.fill_goal-self-inside.auto.cells ∙ ap length c.deref_mut.ensures.value in
-    filled (map neg_ℚ c.args.from.now.coefs) items c.fill_goal-self-inside.new.cells w c.fill_goal-self-inside.result (λ m. neg_ℚ (number_in c.args.from.now.coefs m)) _ c.of_fraction-self-inside.result (e ∙ sym (length-map c.args.from.now.coefs neg_ℚ)) same len high k (λ m h. sym (get_or-map neg_ℚ c.args.from.now.coefs m (whole (pos 0)) (whole (pos 0)) (omega arith))) (c.of_fraction-self-inside.ensures ∙ c.whole.ensures) (λ m h. c.fill_goal-self-inside.ensures.fits m (omega (arith, ap length c.deref_mut.ensures.value))) (subst FitsFrac (sym (c.of_fraction-self-inside.ensures ∙ c.whole.ensures)) zero_fits)
+    filled (map neg_ℚ c.args.from.now.coefs) items c.fill_goal-self-inside.new.cells w c.fill_goal-self-inside.result (λ m. neg_ℚ (number_in c.args.from.now.coefs m))
+    _ c.of_fraction-self-inside.result (e ∙ sym (length-map c.args.from.now.coefs neg_ℚ)) same len high k
+    (λ m h. sym (get_or-map neg_ℚ c.args.from.now.coefs m (whole (pos 0)) (whole (pos 0)) (omega arith))) (c.of_fraction-self-inside.ensures ∙ c.whole.ensures)
+    (λ m h. c.fill_goal-self-inside.ensures.fits m (omega (arith, ap length c.deref_mut.ensures.value))) (subst FitsFrac (sym (c.of_fraction-self-inside.ensures ∙ c.whole.ensures)) zero_fits)
 
 pub invariant_of-self : goal.invariant_of-self
-invariant_of-self c =
-    ((made (goal.at.invariant_of-self c).After-of_fraction-self-inside _ (with_items_is c.self.inside.cells _ (written (goal.at.invariant_of-self c).After-of_fraction-self-inside ∙ sym c.self.inside.cells.ok.0))).line, (tt, all_marked _))
+invariant_of-self c = (
+  (made (goal.at.invariant_of-self c).After-of_fraction-self-inside _
+      (with_items_is c.self.inside.cells _ (written (goal.at.invariant_of-self c).After-of_fraction-self-inside ∙ sym c.self.inside.cells.ok.0))).line,
+  (tt, all_marked _),
+)
 
 pub returns-clause-cells : goal.returns-clause-cells
 returns-clause-cells c =
-    (made (goal.at.returns-clause-cells c).After-of_fraction-self-inside _ (with_items_is c.self.inside.cells _ (written (goal.at.returns-clause-cells c).After-of_fraction-self-inside ∙ sym c.self.inside.cells.ok.0))).row
+    (made (goal.at.returns-clause-cells c).After-of_fraction-self-inside _
+    (with_items_is c.self.inside.cells _ (written (goal.at.returns-clause-cells c).After-of_fraction-self-inside ∙ sym c.self.inside.cells.ok.0))).row
 
 pub returns-clause-narrow : goal.returns-clause-narrow
 returns-clause-narrow c =
-    let m = made (goal.at.returns-clause-narrow c).After-of_fraction-self-inside _ (with_items_is c.self.inside.cells _ (written (goal.at.returns-clause-narrow c).After-of_fraction-self-inside ∙ sym c.self.inside.cells.ok.0)) in
+    let m = made (goal.at.returns-clause-narrow c).After-of_fraction-self-inside _
+    (with_items_is c.self.inside.cells _ (written (goal.at.returns-clause-narrow c).After-of_fraction-self-inside ∙ sym c.self.inside.cells.ok.0)) in
     subst IsNarrow (sym m.row) m.narrow

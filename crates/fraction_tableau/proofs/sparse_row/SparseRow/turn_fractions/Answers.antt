@@ -9,7 +9,13 @@ use Rattle.fraction_tableau.proofs.sparse_row.SparseRow.turn_fractions.Goals as 
 pub turn_row-made-requires : goal.turn_row-made-requires
 turn_row-made-requires c =
     let wide = (open_row _ _ _ _ _ c.self.invariant.0 c.self.view_is).wide in
-    record { width = omega (arith, wide, c.requires.width, ap length c.deref_mut.ensures.value); place = c.requires.place; pivot = c.requires.pivot; short = c.requires.short; narrow = c.requires.narrow }
+    record {
+      width = omega (arith, wide, c.requires.width, ap length c.deref_mut.ensures.value);
+      place = c.requires.place;
+      pivot = c.requires.pivot;
+      short = c.requires.short;
+      narrow = c.requires.narrow;
+    }
 
 pub returns : goal.returns
 returns c =

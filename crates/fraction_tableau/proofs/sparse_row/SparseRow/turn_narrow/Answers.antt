@@ -16,11 +16,18 @@ use Rattle.fraction_tableau.proofs.sparse_row.SparseRow.turn_narrow.Goals as goa
 use Rattle.fraction_tableau.proofs.sparse_row.SparseRow.turn_narrow.Goals.{After-deref_mut, After-turn_whole-self-inside, After-turned-self-inside}
 
 -- the pivot's row is as wide as this one, the pivot's place is one of its places, and the pivot is its number there
-wide : (c : After-deref_mut) → (length c.args.row.now ≡ length c.self.inside.cells.items + 1) × ((c.in-Some.turning.place < length c.self.inside.cells.items) × (pivot_of c.in-Some.turning ≡ number_in c.args.row.now c.in-Some.turning.place))
+wide : (c : After-deref_mut) → (length c.args.row.now ≡ length c.self.inside.cells.items + 1) × ((c.in-Some.turning.place < length c.self.inside.cells.items)
+    × (pivot_of c.in-Some.turning ≡ number_in c.args.row.now c.in-Some.turning.place))
 wide c =
     let opened = open_row _ _ _ _ _ c.self.invariant.0 c.self.view_is in
-    let same = opened.wide in
-    (omega (arith, c.requires.width), (omega (arith, same, c.requires.width, c.requires.place, c.in-Some.ensures.place), c.in-Some.ensures.pivot ∙ ap (number_in c.args.row.now) (sym c.in-Some.ensures.place)))
+    let same = opened.wide in (
+      omega (arith, c.requires.width),
+      (
+        omega (arith, same, c.requires.width, c.requires.place, c.in-Some.ensures.place),
+        c.in-Some.ensures.pivot
+            ∙ ap (number_in c.args.row.now) (sym c.in-Some.ensures.place),
+      ),
+    )
 
 -- the cells that were written
 written : (c : After-turn_whole-self-inside) → length c.turn_whole-self-inside.new.cells ≡ length c.self.inside.cells.items
@@ -43,9 +50,12 @@ turned-self-inside-requires-clause-over c =
     subst (IsOver j.row.denominator j.row.most) (sym p.bound) (c.in-Some.ensures.row.numbers (length c.row.inside.cells.items))
 
 -- the row that is made
-made : (c : After-turned-self-inside) (items : List Kept) → (length c.args.row.now ≡ length c.self.inside.cells.items + 1) × ((c.in-Some.turning.place < length c.self.inside.cells.items) × (pivot_of c.in-Some.turning ≡ number_in c.args.row.now c.in-Some.turning.place)) → length c.turn_whole-self-inside.new.cells ≡ length c.self.inside.cells.items
+made : (c : After-turned-self-inside) (items : List Kept) → (length c.args.row.now ≡ length c.self.inside.cells.items + 1)
+    × ((c.in-Some.turning.place < length c.self.inside.cells.items) × (pivot_of c.in-Some.turning ≡ number_in c.args.row.now c.in-Some.turning.place))
+    → length c.turn_whole-self-inside.new.cells ≡ length c.self.inside.cells.items
     → items ≡ c.turn_whole-self-inside.new.cells
-    → IsSparse (length items) c.turn_whole-self-inside.result (take c.turn_whole-self-inside.result items) × (dense_row (length items) (take c.turn_whole-self-inside.result items) c.turned-self-inside.result ≡ turned c.in-Some.turning.place c.args.row.now)
+    → IsSparse (length items) c.turn_whole-self-inside.result (take c.turn_whole-self-inside.result items)
+    × (dense_row (length items) (take c.turn_whole-self-inside.result items) c.turned-self-inside.result ≡ turned c.in-Some.turning.place c.args.row.now)
 made c items g len same =
     let j = c.in-Some.turning in
     let d = c.args.row.now in
@@ -55,7 +65,8 @@ made c items g len same =
     let high : c.turn_whole-self-inside.result ≤ w = omega (arith, c.turn_whole-self-inside.ensures.count, ap length c.deref_mut.ensures.value) in
     let k = c.turn_whole-self-inside.ensures.cells ∙ ap (λ (u : List Kept). kept_below (number_in (turned j.place d)) (length u)) c.deref_mut.ensures.value in
     let b = turned_last j.place w d c.turned-self-inside.result c.row.inside.bound (pivot_of j) g.1.0 g.1.1 x c.turned-self-inside.ensures in
-    sparse_new (turned j.place d) items c.turn_whole-self-inside.new.cells w c.turn_whole-self-inside.result (number_in (turned j.place d)) c.turned-self-inside.result same len (length-turned j.place d ∙ g.0) high k (λ _ _. refl) b
+    sparse_new (turned j.place d) items c.turn_whole-self-inside.new.cells w c.turn_whole-self-inside.result (number_in (turned j.place d))
+    c.turned-self-inside.result same len (length-turned j.place d ∙ g.0) high k (λ _ _. refl) b
 
 -- its numbers stand over the pivot's numerator
 scaled : (c : After-deref_mut) → (k : ℕ) → IsOver (unsigned_abs c.in-Some.turning.pivot) c.in-Some.turning.row.most (number_in (turned c.in-Some.turning.place c.args.row.now) k)
@@ -68,8 +79,14 @@ pub invariant_of-self : goal.invariant_of-self
 invariant_of-self c =
     let at = goal.at.invariant_of-self c in
     let len = written at.After-turn_whole-self-inside in
-    let m = made at.After-turned-self-inside _ (wide at.After-deref_mut) len (with_items_is c.self.inside.cells c.turn_whole-self-inside.new.cells (len ∙ sym c.self.inside.cells.ok.0)) in
-    (m.0, (subst (IsScaled c.scale.result) (sym m.1) (scale_turned c.in-Some.turning c.scale.result _ c.in-Some.ensures.turning c.scale.ensures.denominator c.scale.ensures.most (scaled at.After-deref_mut)), all_marked _))
+    let m = made at.After-turned-self-inside _ (wide at.After-deref_mut) len (with_items_is c.self.inside.cells c.turn_whole-self-inside.new.cells (len ∙ sym c.self.inside.cells.ok.0)) in (
+      m.0,
+      (
+        subst (IsScaled c.scale.result) (sym m.1) (scale_turned c.in-Some.turning c.scale.result _ c.in-Some.ensures.turning c.scale.ensures.denominator
+            c.scale.ensures.most (scaled at.After-deref_mut)),
+        all_marked _,
+      ),
+    )
 
 pub returns-clause-passed : goal.returns-clause-passed
 returns-clause-passed c =

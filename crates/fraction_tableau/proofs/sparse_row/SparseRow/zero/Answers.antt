@@ -6,8 +6,11 @@ use Rattle.fraction_tableau.proofs.Marking.{none_marked}
 use Rattle.fraction_tableau.proofs.sparse_row.SparseRow.zero.Goals as goal
 
 pub invariant_of-result : goal.invariant_of-result
-invariant_of-result c =
-    (line_made (length c.in_ok-cells.cells.items) 0 (λ _. whole (pos 0)) _ (omega arith) (sym (zeros_skip (λ _. whole (pos 0)) 0 (length c.in_ok-cells.cells.items) (omega arith) (λ m a b. refl))), (tt, none_marked 0))
+invariant_of-result c = (
+  line_made (length c.in_ok-cells.cells.items) 0 (λ _. whole (pos 0)) _ (omega arith)
+      (sym (zeros_skip (λ _. whole (pos 0)) 0 (length c.in_ok-cells.cells.items) (omega arith) (λ m a b. refl))),
+  (tt, none_marked 0),
+)
 
 pub returns : goal.returns
 returns c =

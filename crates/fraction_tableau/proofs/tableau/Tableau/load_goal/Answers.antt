@@ -13,7 +13,8 @@ returns c =
     let i = c.self.inside in
     let t : NamedTableau = record { table = record { rows = i.sparse_rows.items; goal = i.goal; basic = i.basic.items; standing = i.standing.items }; names = i.names.items; spent = i.spent } in
     let b : (with_items i.standing c.count_up.new.numbers).items ≡ range_with_len 0 (width t.table) =
-    with_items_is i.standing c.count_up.new.numbers (c.count_up.auto.numbers ∙ ap length c.deref_mut.ensures.value ∙ sym i.standing.ok.0) ∙ c.count_up.ensures ∙ ap (λ l. range_with_len 0 (length l)) c.deref_mut.ensures.value in
+    with_items_is i.standing c.count_up.new.numbers (c.count_up.auto.numbers ∙ ap length c.deref_mut.ensures.value ∙ sym i.standing.ok.0) ∙ c.count_up.ensures
+    ∙ ap (λ l. range_with_len 0 (length l)) c.deref_mut.ensures.value in
     goal_is t c.args.from.now _ _ c.load_goal.ensures.cells b ∙ ap (with_goal c.args.from.now) c.self.view_is
 
 pub invariant_of-self : goal.invariant_of-self

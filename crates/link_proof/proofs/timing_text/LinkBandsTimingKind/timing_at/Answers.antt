@@ -8,7 +8,8 @@ use Rattle.link_proof.proofs.timing_text.LinkBandsTimingKind.timing_at.Goals as 
 pub overflow_sub-links : goal.overflow_sub-links
 overflow_sub-links c =
     let b = c.in_ok-base.base in
-    let few = (base_fits c.args.line c.args.bytes.now c.in_ok-base.rest.now b.grid b.unit b.patterns.items b.reds.items b.runs.outbound.items b.runs.inbound.items b.first.outbound b.first.inbound 0 0 c.in_ok-base.ensures (omega arith) (omega arith)).few in
+    let few = (base_fits c.args.line c.args.bytes.now c.in_ok-base.rest.now b.grid b.unit b.patterns.items b.reds.items b.runs.outbound.items
+    b.runs.inbound.items b.first.outbound b.first.inbound 0 0 c.in_ok-base.ensures (omega arith) (omega arith)).few in
     let is = c.len-links.ensures in
     omega (arith, few, is)
 
@@ -21,4 +22,5 @@ unreachable-requires c =
     let is = c.len-links.ensures in
     let links : c.len-links.result ≡ length b.patterns.items = omega (arith, is) in
     let halves = subst (λ (n : ℕ). both_ways_at half_out_key half_in_key (c.args.line + 7) (n - 1) c.in_ok-base.rest.now ≡ Ok (out, in', h.rest.now)) links h.ensures in
-    c.in-None.ensures.none (link_fits c.args.line c.args.bytes.now c.in_ok-base.rest.now h.rest.now b.grid b.unit b.patterns.items b.reds.items b.runs.outbound.items b.runs.inbound.items b.first.outbound b.first.inbound out in' c.in_ok-base.ensures halves)
+    c.in-None.ensures.none (link_fits c.args.line c.args.bytes.now c.in_ok-base.rest.now h.rest.now b.grid b.unit b.patterns.items b.reds.items
+    b.runs.outbound.items b.runs.inbound.items b.first.outbound b.first.inbound out in' c.in_ok-base.ensures halves)

@@ -34,5 +34,6 @@ returns-in-Ok c =
     let a = c.args.self.now.artery.now in
     let ws = c.args.leaf.now.multipliers.items in (
       c.in-Ok.ensures.none,
-      c.get.ensures ∙ ap (λ (s : Sheet). s.bound) c.in-Ok.ensures.sum ∙ link_total_bound a c.args.area.now c.known_valid.ensures.few ws ∙ ap (λ (r : maths.Row). r.bound) (sym (link_sum_read a c.args.area.now ws)),
+      c.get.ensures ∙ ap (λ (s : Sheet). s.bound) c.in-Ok.ensures.sum ∙ link_total_bound a c.args.area.now c.known_valid.ensures.few ws
+          ∙ ap (λ (r : maths.Row). r.bound) (sym (link_sum_read a c.args.area.now ws)),
     )

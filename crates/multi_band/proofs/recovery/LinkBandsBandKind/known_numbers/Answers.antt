@@ -3,8 +3,10 @@ use Rattle.multi_band.proofs.recovery.LinkBandsBandKind.known_numbers.Goals as g
 
 pub returns-clause-known : goal.returns-clause-known
 returns-clause-known c =
-    link_ready c.args.artery.now c.args.area.now c.args.point.now.values.items (c.law_valid_street.ensures c.args.artery.now c.known_valid.ensures) c.requires.vertex c.known_valid.ensures c.requires.whole c.requires.products c.requires.unit
+    link_ready c.args.artery.now c.args.area.now c.args.point.now.values.items (c.law_valid_street.ensures c.args.artery.now c.known_valid.ensures)
+    c.requires.vertex c.known_valid.ensures c.requires.whole c.requires.products c.requires.unit
 
 pub returns-clause-lines : goal.returns-clause-lines
 returns-clause-lines c =
-    (link_ready c.args.artery.now c.args.area.now c.args.point.now.values.items (c.law_valid_street.ensures c.args.artery.now c.known_valid.ensures) c.requires.vertex c.known_valid.ensures c.requires.whole c.requires.products c.requires.unit).lines
+    (link_ready c.args.artery.now c.args.area.now c.args.point.now.values.items (c.law_valid_street.ensures c.args.artery.now c.known_valid.ensures)
+    c.requires.vertex c.known_valid.ensures c.requires.whole c.requires.products c.requires.unit).lines

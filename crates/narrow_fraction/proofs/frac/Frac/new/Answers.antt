@@ -17,7 +17,15 @@ returns-in-Some c =
     let d : SFits w128 c.args.den = c.ranges.den in
     let h : 0 < unsigned_abs c.args.den = omega (arith, ints) in
     let b = rw c.in-Some.is at c.build.ensures in
-    let k = simp (to_z-of_z, c.divided.ensures, c.divided-2.ensures, c.common_divisor-shared.ensures.value, c.unsigned_abs-top.ensures.value, c.unsigned_abs-bottom.ensures.value, quotient-parts c.args.num c.args.den h) at b in
+    let k = simp (
+      to_z-of_z,
+      c.divided.ensures,
+      c.divided-2.ensures,
+      c.common_divisor-shared.ensures.value,
+      c.unsigned_abs-top.ensures.value,
+      c.unsigned_abs-bottom.ensures.value,
+      quotient-parts c.args.num c.args.den h,
+    ) at b in
     (λ e. c.if-den-eq0.false (ap (of_z w128) e), k.0, k.1)
 
 pub returns-in-None : goal.returns-in-None
@@ -26,5 +34,13 @@ returns-in-None c =
     let d : SFits w128 c.args.den = c.ranges.den in
     let h : 0 < unsigned_abs c.args.den = omega (arith, ints) in
     let b = rw c.in-None.is at c.build.ensures in
-    let k = simp (to_z-of_z, c.divided.ensures, c.divided-2.ensures, c.common_divisor-shared.ensures.value, c.unsigned_abs-top.ensures.value, c.unsigned_abs-bottom.ensures.value, quotient-parts c.args.num c.args.den h) at b in
+    let k = simp (
+      to_z-of_z,
+      c.divided.ensures,
+      c.divided-2.ensures,
+      c.common_divisor-shared.ensures.value,
+      c.unsigned_abs-top.ensures.value,
+      c.unsigned_abs-bottom.ensures.value,
+      quotient-parts c.args.num c.args.den h,
+    ) at b in
     (λ e. c.if-den-eq0.false (ap (of_z w128) e), k)

@@ -13,7 +13,8 @@ invariant_of-t-3 c =
     let d : SFits w128 (pos c.args.self.den) = omega (arith, ints) in
     let s = simp (x.0, to_z-of_z) at c.if-self-lt0.true in
     let p = inverse_below c.args.self s in
-    lowest_own (to_z w128 (of_z w128 (pos 0 -ℤ to_z w128 (of_z w128 c.self.inside.den)))) (to_z w128 (of_z w128 (pos 0 -ℤ to_z w128 (of_z w128 c.self.inside.num)))) (inverse_ℚ c.args.self) (omega (arith, ints, p.0)) (omega (arith, ints, p.1)) (omega (arith, ints, p.0))
+    lowest_own (to_z w128 (of_z w128 (pos 0 -ℤ to_z w128 (of_z w128 c.self.inside.den)))) (to_z w128 (of_z w128 (pos 0 -ℤ to_z w128 (of_z w128 c.self.inside.num))))
+    (inverse_ℚ c.args.self) (omega (arith, ints, p.0)) (omega (arith, ints, p.1)) (omega (arith, ints, p.0))
 
 pub invariant_of-result : goal.invariant_of-result
 invariant_of-result c =
@@ -22,7 +23,8 @@ invariant_of-result c =
     let d : SFits w128 (pos c.args.self.den) = omega (arith, ints) in
     let s = simp (x.0, to_z-of_z) at c.if-self-lt0.false in
     let p = inverse_above c.args.self s c.requires in
-    lowest_own (to_z w128 (of_z w128 c.self.inside.den)) (to_z w128 (of_z w128 c.self.inside.num)) (inverse_ℚ c.args.self) (omega (arith, ints, p.0)) (omega (arith, ints, p.1)) (omega (arith, ints, p.0))
+    lowest_own (to_z w128 (of_z w128 c.self.inside.den)) (to_z w128 (of_z w128 c.self.inside.num)) (inverse_ℚ c.args.self) (omega (arith, ints, p.0))
+    (omega (arith, ints, p.1)) (omega (arith, ints, p.0))
 
 pub returns-then-self-lt0 : goal.returns-then-self-lt0
 returns-then-self-lt0 c =
@@ -31,7 +33,8 @@ returns-then-self-lt0 c =
     let d : SFits w128 (pos c.args.self.den) = omega (arith, ints) in
     let s = simp (x.0, to_z-of_z) at c.if-self-lt0.true in
     let p = inverse_below c.args.self s in
-    view_own (to_z w128 (of_z w128 (pos 0 -ℤ to_z w128 (of_z w128 c.self.inside.den)))) (to_z w128 (of_z w128 (pos 0 -ℤ to_z w128 (of_z w128 c.self.inside.num)))) (inverse_ℚ c.args.self) (omega (arith, ints, p.0)) (omega (arith, ints, p.1))
+    view_own (to_z w128 (of_z w128 (pos 0 -ℤ to_z w128 (of_z w128 c.self.inside.den)))) (to_z w128 (of_z w128 (pos 0 -ℤ to_z w128 (of_z w128 c.self.inside.num))))
+    (inverse_ℚ c.args.self) (omega (arith, ints, p.0)) (omega (arith, ints, p.1))
 
 pub returns-else-self-lt0 : goal.returns-else-self-lt0
 returns-else-self-lt0 c =

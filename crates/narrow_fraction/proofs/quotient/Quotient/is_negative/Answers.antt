@@ -11,4 +11,5 @@ pub returns : goal.returns
 returns c =
     let n = number_of c.self.inside.num in
     let p = fits_i128 n c.self.invariant.num_fits in
-    rw c.number.ensures (simp to_z-of_z (subst (λ (x : ℚ). IsTrue (int_lt n (pos 0)) ↔ (x <ℚ whole (pos 0))) c.self.view_is (negative_test n (unsigned_abs (number_of c.self.inside.den)) c.self.invariant.above)))
+    rw c.number.ensures (simp to_z-of_z (subst (λ (x : ℚ). IsTrue (int_lt n (pos 0)) ↔ (x <ℚ whole (pos 0))) c.self.view_is
+    (negative_test n (unsigned_abs (number_of c.self.inside.den)) c.self.invariant.above)))

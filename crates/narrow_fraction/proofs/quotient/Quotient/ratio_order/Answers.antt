@@ -23,5 +23,6 @@ returns c =
     let n = below_by_numerator c.in_ok-others.others c.in_ok-under.under u (subst (λ (t : ℚ). t <ℚ whole (pos 0)) q c.requires.other) in
     record {
       order = rw (p, q, a, b) (o ∙ ratio_order c.in_ok-top.top c.in_ok-other_top.other_top c.in_ok-own.own c.in_ok-others.others c.either_below-above.result c.in_ok-under.under v u m n);
-      fits = rw (p, a) (ratio_fits c.in_ok-top.top c.in_ok-own.own c.either_below-above.result c.in_ok-under.under v u m (omega (arith, ints)) (omega (arith, ints)) c.either_below-above.type_inv c.in_ok-under.ensures.word);
+      fits = rw (p, a) (ratio_fits c.in_ok-top.top c.in_ok-own.own c.either_below-above.result c.in_ok-under.under v u m (omega (arith, ints))
+          (omega (arith, ints)) c.either_below-above.type_inv c.in_ok-under.ensures.word);
     }

@@ -19,7 +19,8 @@ loop-line-preserved c =
           let inside : c.loop-line.line < length c.loop-line.bounds = omega arith in
           let there : c.loop-line.line < length c.args.self.now.column.items = (let e = c.requires.column in omega arith) in
           subst (λ (list : List ℚ). IsTurningBounds c.args.self.now.row c.args.self.now.column.items c.args.bounds.now list (c.loop-line.line + 1)) (sym w.bounds-is)
-          (turning_next c.args.self.now.row c.args.self.now.column.items c.args.bounds.now c.loop-line.bounds c.loop-line.line w.in-Some.bound c.loop-line.invariant.turning (λ e. absurd (omega arith)) inside
+          (turning_next c.args.self.now.row c.args.self.now.column.items c.args.bounds.now c.loop-line.bounds c.loop-line.line w.in-Some.bound
+          c.loop-line.invariant.turning (λ e. absurd (omega arith)) inside
           (less_is _ _ _ _ _ _ _
           (w.index-then-line-row.ensures ∙ get_or_default c.args.self.now.column.items c.loop-line.line w.index-then-line-row.result.now (whole (pos 0)) there)
           (w.index-bounds-line.is ∙ get_or_default c.loop-line.bounds c.loop-line.line w.index-bounds-line.result (whole (pos 0)) inside)

@@ -16,7 +16,8 @@ pub returns-clause-street : goal.returns-clause-street
 returns-clause-street c = grind (arith, street_of)
 
 pub returns-clause-boxed : goal.returns-clause-boxed
-returns-clause-boxed c = root_boxed_of c.args.artery.now c.in_ok-loops.loops.items c.in_ok-turns.turns.items c.in_ok-loops.ensures c.in_ok-turns.ensures.value (some c.args.artery.now c.known_valid.ensures) c.in_ok-turns.ensures.some
+returns-clause-boxed c = root_boxed_of c.args.artery.now c.in_ok-loops.loops.items c.in_ok-turns.turns.items c.in_ok-loops.ensures c.in_ok-turns.ensures.value
+    (some c.args.artery.now c.known_valid.ensures) c.in_ok-turns.ensures.some
 
 pub returns-clause-holds : goal.returns-clause-holds
 returns-clause-holds c =

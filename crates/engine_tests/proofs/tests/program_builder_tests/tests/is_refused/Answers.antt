@@ -34,4 +34,5 @@ pivot-requires-clause-pivot c = λ z.
 pub returns : goal.returns
 returns c =
     let m = subst (IsMadeFor c.args.artery.now) (sym c.load.ensures) (made_row (artery_table c.args.artery.now) 0 _ c.args.from.now c.args.tableau.now c.requires.made) in
-    made_pivot (artery_table c.args.artery.now) 0 0 c.load.new.self c.pivot.new.self c.pivot.result m c.known_named.ensures.shaped c.known_named-2.ensures.shaped c.pivot.ensures.exchanged c.pivot.ensures.spent
+    made_pivot (artery_table c.args.artery.now) 0 0 c.load.new.self c.pivot.new.self c.pivot.result m c.known_named.ensures.shaped c.known_named-2.ensures.shaped
+    c.pivot.ensures.exchanged c.pivot.ensures.spent

@@ -10,4 +10,5 @@ pub returns-clause-opens : goal.returns-clause-opens
 returns-clause-opens c = λ line e.
     let cap : to_z w64 (of_z w64 c.args.self.now.cap) ≡ c.args.self.now.cap = omega (arith, ints) in
     finished c.args.self.now.artery c.args.self.now.cap line c.args.meter.now c.spend.new.self c.spend-2.new.self c.end_with.result
-    (subst (λ z. EndsAs c.args.self.now.artery z line c.end_with.result) cap (c.end_with.ensures c.args.self.now.artery line e)) c.spend.ensures.spent c.spend-2.ensures.spent (c.spend-2.ensures.within (c.is_out.ensures.work c.if-is_out.false (c.spend.ensures.within c.requires.work)))
+    (subst (λ z. EndsAs c.args.self.now.artery z line c.end_with.result) cap (c.end_with.ensures c.args.self.now.artery line e)) c.spend.ensures.spent
+    c.spend-2.ensures.spent (c.spend-2.ensures.within (c.is_out.ensures.work c.if-is_out.false (c.spend.ensures.within c.requires.work)))

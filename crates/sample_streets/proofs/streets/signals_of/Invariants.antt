@@ -1,6 +1,0 @@
-use Rattle.std.proofs.Common.{◌≡◌, map, take}
-use Rattle.sample_streets.specs.Samples.{signal_of}
-use Rattle.sample_streets.proofs.streets.signals_of.Given as goal
-
-abbrev pub invariant-loop-sample : goal.invariant-loop-sample
-invariant-loop-sample l = l.signals.items ≡ map signal_of (take l.sample-index l.samples)
