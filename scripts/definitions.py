@@ -15,7 +15,7 @@ KIND = re.compile(rf"^{MARKS}(data|record|ruleset) {MARKS}([^\s:(){{}}]+)")
 SIGNED = re.compile(rf"^{MARKS}([^\s:(){{}}]+)(?: \{{[^}}]*\}})* ?:(?:\s|$)")
 OUTSIDE = ("use ", "pub use ", "infix", "open ", "syntax", "pub mod ", "mod ")
 # Calls that are read as definitions, by their clauses: those that the theorem of the program is the contract of.
-CALLS = {"maxband_run": ("run",)}
+CALLS = {"maxband_run": ("run", "maxband_main")}
 # Files in which the goals of one function are answered, by names that the kit makes.
 ANSWERS = {"Answers", "Invariants", "Proof"}
 

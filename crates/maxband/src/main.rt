@@ -5,5 +5,5 @@ use maxband_run::maxband_main;
 use std::process::ExitCode;
 
 fn main(rt: HostRuntime) -> ExitCode {
-    maxband_main(&rt)
+    maxband_main(rt.alloc(), rt)
 }

@@ -1,5 +1,8 @@
 -- The program's last frame: an exit status that is the number of a run's cause, and all that `run` promises of that run.
-use Rattle.std.specs.Prelude.{◌≡◌, ◌⊎◌, ℕ, ◌≤◌, List}
+use Rattle.std.specs.Prelude.{◌≡◌, ◌≢◌, ◌⊎◌, ℕ, ◌≤◌, List, Result, MatchResult, drop}
+use Rattle.std.specs.IoError.{error_kind}
+use Rattle.std.specs.declared.io.Error.{Error}
+use Rattle.std.specs.declared.io.ErrorKind.TheVariants.{OutOfMemory}
 use Rattle.outer_edge.specs.Counts.{NoneFell}
 use Rattle.outer_edge.specs.declared.files.Files as files
 use Rattle.outer_edge.specs.declared.sink.Sink as sink
@@ -32,8 +35,22 @@ pub record WantsMemory {F K : Type 0} (before after : F) (old new : K) (status :
 abbrev pub Exits : {F K : Type 0} → files.Ghosts F → sink.Ghosts K → F → F → K → K → List (List ℕ) → ℕ → Type 0
 Exits f k before after old new words status = ExitsBy f k before after old new words status ⊎ WantsMemory before after old new status
 
--- there were no words: nothing was done, and the status is that of want of memory, or that of words that the system doesn't give as text
-pub record HasNoWords {F K : Type 0} (before after : F) (old new : K) (status : ℕ) : Type 0 where
-  pub status_is : (status ≡ number_of cause.Memory) ⊎ (status ≡ no_words)
+-- There were no words, but this error: nothing was done, and the status is that of want of memory, or that of words that the system doesn't give as text.
+pub record HasNoWords {F K : Type 0} (before after : F) (old new : K) (status : ℕ) (error : Error) : Type 0 where
+  pub memory : error_kind error ≡ OutOfMemory → status ≡ number_of cause.Memory
+  pub text : error_kind error ≢ OutOfMemory → status ≡ no_words
   pub files : after ≡ before
   pub out : new ≡ old
+
+-- The program was run: over the files and the output that the system made, by all words that it gave but the first, or by the error in their
+-- place; and it was left with files and output as they then stood.
+pub record IsRun {F K : Type 0} (f : files.Ghosts F) (k : sink.Ghosts K) (gives : Result (List (List ℕ)) Error → Type 0) (opens closes : F → K → Type 0) (status : ℕ) : Type 0 where
+  pub words : Result (List (List ℕ)) Error
+  pub given : gives words
+  pub before : F
+  pub old : K
+  pub opened : opens before old
+  pub after : F
+  pub new : K
+  pub closed : closes after new
+  pub exits : MatchResult words (λ all. Exits f k before after old new (drop 1 all) status) (HasNoWords before after old new status)

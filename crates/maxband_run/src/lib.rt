@@ -6,12 +6,16 @@
 //! description of an artery (`show`) and certificates in the second format (`renew`); make arteries from a seed, to be described
 //! (`make`) or searched (`trial`); and tell the program's usages (`--help`) and what it reads (`--version`).
 //!
-//! Start with `run`, which is the program over any files and any output. Its contract is the program's theorem: each status has its
-//! cause, and the output grows by exactly that answer's lines (`specs/Run.antt`). `run_program` is the last frame, from what the
-//! system answers of its words to an exit status (`specs/Program.antt`): the number of the cause for which all that `run` promises
-//! holds of just these words, or 8 where memory is wanting for them, or 12 where the system doesn't give them as text, and then
-//! nothing was done. No contract can name what the system gives: that `maxband_main` hands on what it is given and what it gets is
-//! tested by stored runs alone.
+//! Start with `run`, which is the program over any files and any output: each status has its cause, and the output grows by exactly
+//! that answer's lines (`specs/Run.antt`). The last frame is `maxband_main`, over any `System`; its contract is the program's theorem
+//! (`specs/Program.antt`): the exit status is the number of the cause for which all that `run` promises holds of just the words that the
+//! system gave but the first, and of the system's own files and output, from those that it made to those that it was left with; or 8
+//! where memory is wanting for words, files or output, or 12 where the system doesn't give the words as text, and then nothing was
+//! done. `run_program` is the same over words, files and an output that are at hand. No contract can name what the runtime gives: the
+//! calls of it, which decide nothing, stand in `src/runtime.rt`, and stored runs test them and `main`.
+//!
+//! `RealFiles` and `RealOut` tell nothing of what they hold. So for the shipped program all this ties the exit status, and no printed
+//! byte.
 //!
 //! What the words ask for, which files that reads and as what, and why one of them isn't read stand in `run_inputs`; what each command
 //! finds in what was read, and tells of it, in `run_commands`. An answer is then one of two: the reading stops at a file
@@ -33,8 +37,11 @@
 mod answers;
 mod finish;
 mod program;
+mod runtime;
+mod system;
 mod top;
 
 pub use program::{maxband_main, run_program};
 pub use run_inputs::{Cause, Status};
+pub use system::System;
 pub use top::run;

@@ -1,18 +1,18 @@
 //! The program's last frame: from the system's words to an exit status.
 
-ghost use Rattle.std.specs.{Prelude.{◌≡◌, ◌⊎◌, IfErr, IfOk, IsErr, MatchResult, OnErr, drop, map, string_bytes}, Process.{exit_status}};
-ghost use Rattle.std.specs.Vec.Iter.{into_iter_items};
+ghost use Rattle.std.specs.{Prelude.{◌≡◌, ◌≢◌, ◌⊎◌, IfErr, IfOk, IsErr, MatchResult, OnErr, drop, map, string_bytes}, Process.{exit_status}};
+ghost use Rattle.std.specs.{Vec.Iter.{into_iter_items}, IoError.{error_kind}, declared.io.ErrorKind.TheVariants.{OutOfMemory}};
 ghost use Rattle.run_inputs.specs.Status.{number_of, no_words};
-ghost use Rattle.maxband_run.specs.Program.{ExitsBy, Exits, HasNoWords};
+ghost use Rattle.maxband_run.specs.Program.{ExitsBy, Exits, HasNoWords, IsRun};
 
+use crate::system::System;
 use crate::top::run;
-use outer_edge::{Files, RealFiles, RealOut, Sink};
+use outer_edge::{Files, Sink};
 use run_inputs::{Cause, NO_WORDS};
 use std::alloc::{AllocError, Global};
 use std::io::ErrorKind;
 use std::process::ExitCode;
-use std::rt::Env;
-use std::{env, io, rt};
+use std::{env, io};
 
 /// The status for want of memory, which is that of `run`.
 fn no_memory() -> u8
@@ -38,7 +38,8 @@ fn words(alloc: Global, args: io::Result<env::Args>) -> Result<Vec<String>, u8>
     ensures all { IfOk args (λ given. IfOk result (λ words. words.items ≡ drop 1 (into_iter_items given))) }
     ensures wanting { IfOk args (λ given. IfErr result (λ number. number ≡ number_of Cause.Memory)) }
     ensures none { OnErr args (IsErr result) }
-    ensures numbers { IfErr result (λ number. (number ≡ number_of Cause.Memory) ⊎ (number ≡ no_words)) }
+    ensures memory { IfErr args (λ e. error_kind e ≡ OutOfMemory → IfErr result (λ number. number ≡ number_of Cause.Memory)) }
+    ensures text { IfErr args (λ e. error_kind e ≢ OutOfMemory → IfErr result (λ number. number ≡ no_words)) }
 {
     match args {
         Ok(args) => after_the_name(alloc, args).map_err(|_| no_memory()),
@@ -70,7 +71,7 @@ pub fn run_program<F: Files, K: Sink>(
 ) -> ExitCode
     ensures { MatchResult args
         (λ given. Exits F.Files K.Sink files.old files.new out.old out.new (map string_bytes (drop 1 (into_iter_items given))) (exit_status result))
-        (λ error. HasNoWords files.old files.new out.old out.new (exit_status result)) }
+        (HasNoWords files.old files.new out.old out.new (exit_status result)) }
 {
     match words(alloc, args) {
         Ok(words) => exit_of_run(alloc, words.as_slice(), files, out),
@@ -78,12 +79,15 @@ pub fn run_program<F: Files, K: Sink>(
     }
 }
 
-/// The program over the system's words, files and output.
-pub fn maxband_main<R: Env + rt::Files + Print + AllocGlobal + Clone + Drop>(rt: &R) -> ExitCode {
-    let alloc = rt.alloc();
-    let args = env::args(rt);
-    let (Ok(mut files), Ok(mut out)) = (RealFiles::new(rt, alloc), RealOut::new(rt, alloc)) else {
+/// The program over a system: its files and its output are made, what it gives is run (`run_program`), and it is left. Where they can't be
+/// made the status is that of want of memory, whatever the words are.
+pub fn maxband_main<S: System + Drop>(alloc: Global, system: S) -> ExitCode
+    ensures { (S.Refuses system × (exit_status result ≡ number_of Cause.Memory)) ⊎ IsRun S.Files.Files S.Out.Sink (S.Gives system) (S.Opens system) (S.Closes system) (exit_status result) }
+{
+    let Ok((mut files, mut out)) = system.open() else {
         return ExitCode::from(no_memory());
     };
-    run_program(alloc, args, &mut files, &mut out)
+    let status = run_program(alloc, system.words(), &mut files, &mut out);
+    system.close(files, out);
+    status
 }

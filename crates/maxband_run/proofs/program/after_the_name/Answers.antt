@@ -4,3 +4,6 @@ use Rattle.maxband_run.proofs.program.after_the_name.Goals as goal
 
 pub loop-word-init : goal.loop-word-init
 loop-word-init c = grind (arith, common_steps)
+
+pub loop-word-preserved : goal.loop-word-preserved
+loop-word-preserved c = grind (arith, common_steps)
