@@ -5,4 +5,5 @@ use Rattle.maxband_run.proofs.LastFrame.{is_run}
 use Rattle.maxband_run.proofs.program.maxband_main.Goals as goal
 
 pub returns : goal.returns
-returns g c = inr (is_run into_iter_items string_bytes _ _ _ _ _ _ c.words.result _ _ _ _ c.words.ensures.given c.words.ensures.error c.in-Ok.ensures.opened c.close.ensures c.run_program-status.ensures)
+returns g c = inr (is_run into_iter_items string_bytes _ _ _ _ _ _ c.words.result _ _ _ _ c.words.ensures.given c.words.ensures.error c.in-Ok.ensures.opened
+    c.close.ensures c.run_program-status.ensures)
