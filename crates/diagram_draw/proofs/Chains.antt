@@ -2,7 +2,7 @@
 use Rattle.std.proofs.Common.{◌≡◌, ℕ, ◌+◌, ◌-◌, ◌≤◌, List, [], ◌∷◌, ◌++◌, map, flat_map, append_assoc, append-nil, sym, ap, ◌∙◌, arith}
 use Rattle.std.specs.List.{range_with_len}
 use Rattle.timing_measures.proofs.Pieces.{extended, extended_one, range_on, piece_up, map_up, text_on, text_up, texts_up}
-use Rattle.quantity_text.proofs.Pushed.{one_more, three_pushed, two_pushed}
+use Rattle.quantity_text.proofs.Pushed.{one_more, six_pushed, three_pushed, two_pushed}
 use Rattle.std.proofs.lemmas.Grind.{flat_map-append}
 use Rattle.diagram_draw.specs.Shapes.{Caption, captions_text}
 use Rattle.diagram_draw.proofs.Joins.{captions_joined}
@@ -99,3 +99,14 @@ pub piece_written_up : (start new old : List ℕ) (i : ℕ) → 1 ≤ i → (f :
     → (1 ≤ i + 1) × (new ≡ start ++ flat_map f (range_with_len 1 (i + 1 - 1)))
 piece_written_up start new old i some f p q =
     (from_one i, one_more start _ (f i) _ old new q p (ap (λ n. flat_map f (range_with_len 1 n)) (back_one i) ∙ piece_up f i some))
+
+pub seven_pushed : {A : Type 0} (start one two three four five six seven t u v w x y z : List A) → one ≡ start ++ t → two ≡ one ++ u → three ≡ two ++ v
+    → four ≡ three ++ w → five ≡ four ++ x → six ≡ five ++ y → seven ≡ six ++ z
+    → seven ≡ start ++ (t ++ (u ++ (v ++ (w ++ (x ++ (y ++ z))))))
+seven_pushed start one two three four five six seven t u v w x y z p q r h i j k =
+    two_pushed start one seven t (u ++ (v ++ (w ++ (x ++ (y ++ z))))) p (six_pushed one two three four five six seven u v w x y z q r h i j k)
+
+-- the second of three is what is said of it
+pub three_pushed_as : {A : Type 0} (start one two three x y z w : List A) → one ≡ start ++ x → two ≡ one ++ y → y ≡ w → three ≡ two ++ z
+    → three ≡ start ++ (x ++ (w ++ z))
+three_pushed_as start one two three x y z w p q e r = three_pushed start one two three x w z p (q ∙ ap (λ a. one ++ a) e) r

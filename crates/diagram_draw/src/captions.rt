@@ -1,10 +1,10 @@
 //! The words of a drawing.
 
-ghost use Rattle.std.specs.{Prelude.{◌≡◌, ◌+◌, ◌*◌, ◌/◌, ◌%◌, ◌<◌, ◌≤◌, ◌^◌, ◌++◌, codes, OnOk, option_map, pos, ◌≤ℤ◌, length}, Fmt.{decimal}};
-ghost use Rattle.progression.specs.Street.{count};
+ghost use Rattle.std.specs.{Prelude.{◌≡◌, ◌&&◌, ◌+◌, ◌*◌, ◌/◌, ◌%◌, ◌<◌, ◌≤◌, ◌^◌, ◌++◌, codes, OnOk, option_map, pos, ◌≤ℤ◌, length}, Fmt.{decimal}};
+ghost use Rattle.progression.specs.{Street.{count}, Best.{weighted_band}};
 ghost use Rattle.progression.specs.declared.parts.Dir.TheVariants.{Outbound, Inbound};
 ghost use Rattle.timing_measures.specs.Rounding.{nearest};
-ghost use Rattle.diagram_draw.specs.Escapes.{escaped};
+ghost use Rattle.diagram_draw.specs.{Escapes.{escaped}, Ways.{has_band}};
 ghost use Rattle.diagram_draw.specs.{declared.paint.Letter.TheVariants.{Facts, HeadEnd, Number}, Frames.{IsFrame}};
 ghost use Rattle.diagram_draw.specs.Shapes.{words_opening, words_text, sized_opening, sized_words_text, sized_text, caption_text, captions_text, sizeds_text};
 ghost use Rattle.diagram_draw.specs.Captions.{thousandths_text, tenths, hundredths, seconds_text, width_text, percent_text, offset_tenths};
@@ -209,12 +209,18 @@ fn push_width_facts(
     push_text(out, " % of the cycle")
 }
 
-/// Writes the beginning of what is said of a band that there is.
-fn push_some_band(out: &mut Vec<u8>, dir: Dir) -> Result<(), Memory>
-    ensures { OnOk result (out.new.items ≡ out.old.items ++ (codes " &#183; " ++ dir_word dir)) }
+/// Writes the band of a direction that has one.
+fn push_some_band(
+    out: &mut Vec<u8>,
+    artery: &Artery,
+    timing: &Timing,
+    dir: Dir,
+) -> Result<(), Memory>
+    ensures { OnOk result (out.new.items ≡ out.old.items ++ (codes " &#183; " ++ (dir_word dir ++ width_facts artery.now timing.now dir))) }
 {
     push_text(out, " &#183; ")?;
-    push_text(out, dir_word(dir))
+    push_text(out, dir_word(dir))?;
+    push_width_facts(out, artery, timing, dir)
 }
 
 /// Writes that there is no band.
@@ -237,11 +243,11 @@ fn push_band_facts(
     requires { length timing.now.patterns ≡ count artery.now }
     ensures { OnOk result (out.new.items ≡ out.old.items ++ band_facts artery.now timing.now dir) }
 {
-    if !has_band(artery, timing, dir) {
-        return push_no_band(out, dir);
+    if has_band(artery, timing, dir) {
+        push_some_band(out, artery, timing, dir)
+    } else {
+        push_no_band(out, dir)
     }
-    push_some_band(out, dir)?;
-    push_width_facts(out, artery, timing, dir)
 }
 
 /// Writes the cycle.
@@ -254,17 +260,33 @@ fn push_cycle_facts(out: &mut Vec<u8>, artery: &Artery, timing: &Timing) -> Resu
     push_text(out, " s")
 }
 
+/// Whether both directions have a band.
+fn have_bands(artery: &Artery, timing: &Timing) -> bool
+    requires { length timing.now.patterns ≡ count artery.now }
+    ensures { result ≡ (has_band artery.now timing.now Dir.Outbound && has_band artery.now timing.now Dir.Inbound) }
+{
+    has_band(artery, timing, Dir::Outbound) && has_band(artery, timing, Dir::Inbound)
+}
+
+/// Writes the weighted band of two bands.
+fn push_weighted(out: &mut Vec<u8>, artery: &Artery, timing: &Timing) -> Result<(), Memory>
+    ensures { OnOk result (out.new.items ≡ out.old.items ++ (codes " &#183; weighted band " ++ thousandths_text (nearest (weighted_band artery.now timing.now) 3))) }
+{
+    push_text(out, " &#183; weighted band ")?;
+    push_thousandths(out, value(artery, timing))
+}
+
 /// Writes the weighted band, where both directions have a band.
 #[tactic(auto, unfolding(crate::specs::Captions::weighted_facts))]
 fn push_weighted_facts(out: &mut Vec<u8>, artery: &Artery, timing: &Timing) -> Result<(), Memory>
     requires { length timing.now.patterns ≡ count artery.now }
     ensures { OnOk result (out.new.items ≡ out.old.items ++ weighted_facts artery.now timing.now) }
 {
-    if !has_band(artery, timing, Dir::Outbound) || !has_band(artery, timing, Dir::Inbound) {
-        return Ok(());
+    if have_bands(artery, timing) {
+        push_weighted(out, artery, timing)
+    } else {
+        Ok(())
     }
-    push_text(out, " &#183; weighted band ")?;
-    push_thousandths(out, value(artery, timing))
 }
 
 /// Writes the cycle and the bands.

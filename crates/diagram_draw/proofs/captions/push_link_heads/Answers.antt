@@ -10,7 +10,7 @@ pub returns : goal.returns
 unfolding link_heads
 returns c =
     let right = c.plot_right-right.ensures.value in
-    let head = c.head-units.ensures.value in
+    let head = c.head.ensures.value in
     on_ok_weaker c.push_speed_head-2.result
     (λ e. three_listed _ _ _ _ _ _ _ c.in_ok-push_length_head.ensures c.in_ok-push_speed_head.ensures e
     ∙ (λ i. c.args.out.now.items ++ (words_text HeadEnd (pos (right i + 880)) head_level (lengths_head c.args.artery.now)

@@ -10,7 +10,7 @@ pub returns : goal.returns
 unfolding notes
 returns c =
     let bottom = c.plot_bottom-bottom.ensures.value in
-    let width = c.plot_width-middle.ensures.value in
+    let width = c.plot_width.ensures.value in
     on_ok_weaker c.push_words-2.result
     (λ e. two_listed _ _ _ _ _ c.in_ok-push_words.ensures e
     ∙ (λ i. c.args.out.now.items ++ (words_text Axis (pos (c.args.frame.left + width i / 2)) (pos (bottom i + 420)) (c.axis_words.ensures i)
