@@ -9,7 +9,7 @@ use std::cell::Cell;
 use std::fmt::Display;
 use std::fs::{Metadata, OpenFile, OpenOptions, Permissions};
 use std::io::{ErrorKind, Read, Seek, SeekFrom, Write};
-use std::os::unix::fs::{MetadataExt, OpenOptionsExt, chown, symlink};
+use std::os::unix::fs::{MetadataExt, OpenOptionsExt, PermissionsExt, chown, symlink};
 use std::test::Fail;
 use std::{fs, io, rt};
 
@@ -52,14 +52,22 @@ enum Fault {
     Nothing,
     /// Each file takes four bytes more.
     Full,
-    /// No new file can be made.
+    /// No new file can be made, since the disk is full.
     FullForNew,
+    /// No new file may be made.
+    Unmakeable,
     /// No file can be stored.
     FullForStoring,
     /// No file that stands there may be written to.
     NotWritable,
     /// New files are the superuser's, and all others somebody else's.
     OtherOwner,
+    /// New files are the superuser's too, but not of their group, as all others are.
+    OtherGroup,
+    /// The permissions of a file that is there can't be set.
+    Unsettable,
+    /// Each file is a folder by the time that it is open.
+    Exchanged,
     /// A file's first piece can be read, and no more of it.
     Unreadable,
 }
@@ -77,10 +85,16 @@ struct FaultyFile {
     file: fs::File,
     fault: Fault,
     room: usize,
+    /// What it tells of itself, where that isn't what the system tells.
+    told: Option<Metadata>,
 }
 
 fn full() -> io::Error {
     io::Error::from(ErrorKind::StorageFull)
+}
+
+fn denied() -> io::Error {
+    io::Error::from(ErrorKind::PermissionDenied)
 }
 
 impl Read for FaultyFile {
@@ -119,10 +133,10 @@ impl Seek for FaultyFile {
 
 impl OpenFile for FaultyFile {
     fn metadata(&self) -> io::Result<Metadata> {
-        if self.fault == Fault::OtherOwner {
-            return Ok(Metadata::of_file(0));
+        match &self.told {
+            Some(told) => Ok(told.clone()?),
+            None => self.file.metadata(),
         }
-        self.file.metadata()
     }
 
     fn set_len(&self, size: u64) -> io::Result<()> {
@@ -141,16 +155,43 @@ impl OpenFile for FaultyFile {
     }
 
     fn set_permissions(&self, permissions: Permissions) -> io::Result<()> {
+        if self.fault == Fault::Unsettable {
+            return Err(denied());
+        }
         self.file.set_permissions(permissions)
     }
 }
 
-fn refuses(fault: Fault, how: &OpenOptions) -> Option<ErrorKind> {
+fn refuses(fault: Fault, how: &OpenOptions) -> Option<io::Error> {
     match fault {
-        Fault::FullForNew if how.asks_create_new() => Some(ErrorKind::StorageFull),
-        Fault::NotWritable if how.asks_write() && !how.asks_create_new() => {
-            Some(ErrorKind::PermissionDenied)
+        Fault::FullForNew if how.asks_create_new() => Some(full()),
+        Fault::Unmakeable if how.asks_create_new() => Some(denied()),
+        Fault::NotWritable if how.asks_write() && !how.asks_create_new() => Some(denied()),
+        _ => None,
+    }
+}
+
+/// Names that a system has, of which one or the other is the superuser's and not of their group.
+static OF_OTHER_GROUPS: [&str; 3] = ["/etc/shadow", "/var/mail", "/dev/tty"];
+
+fn of_other_group(rt: &HostRuntime) -> Option<Metadata> {
+    for name in &OF_OTHER_GROUPS {
+        if let Ok(found) = fs::metadata(rt, *name)
+            && found.uid() == 0
+            && found.gid() != 0
+        {
+            return Some(found);
         }
+    }
+    None
+}
+
+/// What an open file tells of itself, where that isn't what the system tells.
+fn told_of_open(rt: &HostRuntime, fault: Fault) -> Option<Metadata> {
+    match fault {
+        Fault::OtherOwner => Some(Metadata::of_file(0)),
+        Fault::OtherGroup => of_other_group(rt),
+        Fault::Exchanged => Some(Metadata::of_dir()),
         _ => None,
     }
 }
@@ -161,14 +202,15 @@ impl rt::Files for FaultyDisk<'_> {
     type Dir = FaultyFile;
 
     fn open_file(&self, how: &OpenOptions, path: &str) -> io::Result<FaultyFile> {
-        if let Some(kind) = refuses(self.fault, how) {
-            return Err(io::Error::from(kind));
+        if let Some(error) = refuses(self.fault, how) {
+            return Err(error);
         }
         self.opened.set(self.opened.get().saturating_add(1));
         Ok(FaultyFile {
             file: self.rt.open_file(how, path)?,
             fault: self.fault,
             room: 4,
+            told: told_of_open(self.rt, self.fault),
         })
     }
 
@@ -178,6 +220,9 @@ impl rt::Files for FaultyDisk<'_> {
     }
 
     fn metadata(&self, path: &str) -> io::Result<Metadata> {
+        if self.fault == Fault::OtherGroup {
+            return Ok(Metadata::of_file(0));
+        }
         self.rt.metadata(path)
     }
 
@@ -280,6 +325,11 @@ fn system_answered(alloc: Global, files: &mut RealFiles<HostRuntime>, steps: &[S
 
 fn faulty_answered(alloc: Global, files: &mut RealFiles<FaultyDisk<'_>>, steps: &[Step]) -> u64 {
     answered(alloc, files, steps)
+}
+
+/// A text of more than a mebibyte.
+fn long_text(alloc: Global) -> Result<Vec<u8>, Fail> {
+    Ok(vec![in alloc; b'x'; 1_048_580]?)
 }
 
 fn system_files(rt: &HostRuntime) -> Result<RealFiles<HostRuntime>, Fail> {
@@ -412,9 +462,11 @@ fn ten_bytes_are_too_long_for_a_limit_of_nine(rt: HostRuntime) -> Result<(), Fai
     Ok(())
 }
 
-static PUT_AND_READ: [Step; 2] = [
+static PUT_AND_READ: [Step; 4] = [
     Step::Put("outer_edge.trial", b"put and read", Ok(())),
     Step::Whole("outer_edge.trial", 100, Ok(b"put and read")),
+    Step::Put("outer_edge.trial", b"", Ok(())),
+    Step::Whole("outer_edge.trial", 100, Ok(b"")),
 ];
 
 static ABSENT: [Step; 2] = [
@@ -422,8 +474,10 @@ static ABSENT: [Step; 2] = [
     Step::Put("no/such/folder", b"x", Err(FileEnd::Failed)),
 ];
 
-fn is_read_back(rt: &HostRuntime, files: &mut RealFiles<HostRuntime>) -> bool {
-    system_answered(rt.alloc(), files, &PUT_AND_READ) == 2
+fn is_read_back(rt: &HostRuntime, files: &mut RealFiles<HostRuntime>, long: &[u8]) -> bool {
+    system_answered(rt.alloc(), files, &PUT_AND_READ) == 4
+        && files.put("outer_edge.trial", long) == Ok(())
+        && system_file_is(rt, "outer_edge.trial", long)
         && is_removed(rt, "outer_edge.trial")
         && system_answered(rt.alloc(), files, &ABSENT) == 2
 }
@@ -431,7 +485,8 @@ fn is_read_back(rt: &HostRuntime, files: &mut RealFiles<HostRuntime>) -> bool {
 #[test]
 fn a_file_of_the_system_is_read_back(rt: HostRuntime) -> Result<(), Fail> {
     let mut files = system_files(&rt)?;
-    assert!(rt; is_read_back(&rt, &mut files));
+    let long = long_text(rt.alloc())?;
+    assert!(rt; is_read_back(&rt, &mut files, long.as_slice()));
     Ok(())
 }
 
@@ -486,20 +541,29 @@ type FaultyPut = (Fault, Result<(), FileEnd>, &'static [u8], bool);
 
 const NOT_PUT: Result<(), FileEnd> = Err(FileEnd::Failed);
 
-static FAULTY_PUTS: [FaultyPut; 6] = [
+const LONGER: &[u8] = b"what was there";
+
+static FAULTY_PUTS: [FaultyPut; 9] = [
     (Fault::Nothing, Ok(()), b"newer", true),
-    (Fault::Full, NOT_PUT, b"old", false),
-    (Fault::FullForNew, NOT_PUT, b"old", false),
-    (Fault::FullForStoring, NOT_PUT, b"old", false),
-    (Fault::NotWritable, NOT_PUT, b"old", false),
+    (Fault::Full, NOT_PUT, LONGER, false),
+    (Fault::FullForNew, NOT_PUT, LONGER, false),
+    (Fault::FullForStoring, NOT_PUT, LONGER, false),
+    (Fault::NotWritable, NOT_PUT, LONGER, false),
+    (Fault::Unmakeable, Ok(()), b"newer", false),
     (Fault::OtherOwner, Ok(()), b"newer", false),
+    (Fault::OtherGroup, Ok(()), b"newer", false),
+    (Fault::Unsettable, Ok(()), b"newer", true),
 ];
 
 const FAULTY: &str = "outer_edge.faulty";
 
-/// Makes an old file, which isn't the superuser's where new files are.
+/// Makes an old file, which isn't the superuser's where new files are. Where a new file's permissions can't be set it is
+/// private, so that the new one has to be made so.
 fn make_old(rt: &HostRuntime, fault: Fault) -> bool {
-    let is_made = fs::write(rt, FAULTY, b"old").is_ok();
+    if fault == Fault::Unsettable {
+        return make_private(rt, FAULTY);
+    }
+    let is_made = fs::write(rt, FAULTY, LONGER).is_ok();
     if fault == Fault::OtherOwner {
         let _ = chown(rt, FAULTY, Some(1), Some(1));
     }
@@ -535,7 +599,7 @@ fn a_put_replaces_only_what_may_be_replaced(rt: HostRuntime) -> Result<(), Fail>
 
 /// Makes an old file of two names.
 fn make_two_names(rt: &HostRuntime) -> bool {
-    fs::write(rt, "outer_edge.first", b"old").is_ok()
+    fs::write(rt, "outer_edge.first", LONGER).is_ok()
         && fs::hard_link(rt, "outer_edge.first", "outer_edge.second").is_ok()
 }
 
@@ -550,17 +614,20 @@ fn are_removed(rt: &HostRuntime, names: &[&str]) -> bool {
 
 static NEWER_FIRST: [Step; 1] = [Step::Put("outer_edge.first", b"newer", Ok(()))];
 
-fn keep_two_names(rt: &HostRuntime, files: &mut RealFiles<HostRuntime>) -> bool {
+fn keep_two_names(rt: &HostRuntime, files: &mut RealFiles<HostRuntime>, long: &[u8]) -> bool {
     make_two_names(rt)
         && system_answered(rt.alloc(), files, &NEWER_FIRST) == 1
         && system_file_is(rt, "outer_edge.second", b"newer")
+        && files.put("outer_edge.first", long) == Ok(())
+        && system_file_is(rt, "outer_edge.second", long)
         && are_removed(rt, &["outer_edge.first", "outer_edge.second"])
 }
 
 #[test]
 fn a_file_of_two_names_keeps_them(rt: HostRuntime) -> Result<(), Fail> {
     let mut files = system_files(&rt)?;
-    assert!(rt; keep_two_names(&rt, &mut files));
+    let long = long_text(rt.alloc())?;
+    assert!(rt; keep_two_names(&rt, &mut files, long.as_slice()));
     Ok(())
 }
 
@@ -631,11 +698,12 @@ fn make_private(rt: &HostRuntime, name: &str) -> bool {
     private.open(rt, name).is_ok()
 }
 
-/// Makes a link to a private file, beside which another's stands.
-fn make_link(rt: &HostRuntime) -> bool {
+/// Makes a link to a private file, beside which another's stands, and one to no file.
+fn make_links(rt: &HostRuntime) -> bool {
     make_private(rt, "outer_edge.kept")
         && fs::write(rt, "outer_edge.kept.new1", b"another's").is_ok()
         && symlink(rt, "outer_edge.kept", "outer_edge.link").is_ok()
+        && symlink(rt, "outer_edge.nowhere", "outer_edge.dangling").is_ok()
 }
 
 fn is_link(rt: &HostRuntime, name: &str) -> bool {
@@ -645,20 +713,29 @@ fn is_link(rt: &HostRuntime, name: &str) -> bool {
     }
 }
 
-fn is_private(rt: &HostRuntime, name: &str) -> bool {
+/// The permissions of a file.
+fn mode_of(rt: &HostRuntime, name: &str) -> Option<u32> {
     match fs::metadata(rt, name) {
-        Ok(found) => found.mode() & 0o777 == 0o600,
-        Err(_) => false,
+        Ok(found) => Some(found.mode() & 0o777),
+        Err(_) => None,
     }
 }
 
-static THROUGH_THE_LINK: [Step; 1] = [Step::Put("outer_edge.link", b"through the link", Ok(()))];
+static THROUGH_THE_LINKS: [Step; 3] = [
+    Step::Put("outer_edge.link", b"through the link", Ok(())),
+    Step::Whole("outer_edge.link", 100, Ok(b"through the link")),
+    Step::Put("outer_edge.dangling", b"made", Ok(())),
+];
 
-/// Whether the link is still one, and the file behind it is private and holds what was put.
-fn is_kept(rt: &HostRuntime) -> bool {
+/// Whether the links are still links, and the files behind them hold what was put. The first is another file than it was, and
+/// private too.
+fn are_kept(rt: &HostRuntime, before: Option<u64>) -> bool {
     is_link(rt, "outer_edge.link")
         && system_file_is(rt, "outer_edge.kept", b"through the link")
-        && is_private(rt, "outer_edge.kept")
+        && number_of(rt, "outer_edge.kept") != before
+        && mode_of(rt, "outer_edge.kept") == Some(0o600)
+        && is_link(rt, "outer_edge.dangling")
+        && system_file_is(rt, "outer_edge.nowhere", b"made")
 }
 
 /// Whether another's file stands there as it was, and no second new one.
@@ -667,20 +744,82 @@ fn is_untouched(rt: &HostRuntime) -> bool {
         && is_absent(rt, "outer_edge.kept.new2")
 }
 
-static LINKED: [&str; 3] = ["outer_edge.link", "outer_edge.kept", "outer_edge.kept.new1"];
+static LINKED: [&str; 5] = [
+    "outer_edge.link",
+    "outer_edge.kept",
+    "outer_edge.kept.new1",
+    "outer_edge.dangling",
+    "outer_edge.nowhere",
+];
 
 fn keep_links(rt: &HostRuntime, files: &mut RealFiles<HostRuntime>) -> bool {
-    make_link(rt)
-        && system_answered(rt.alloc(), files, &THROUGH_THE_LINK) == 1
-        && is_kept(rt)
+    let is_made = make_links(rt);
+    let before = number_of(rt, "outer_edge.kept");
+    is_made
+        && system_answered(rt.alloc(), files, &THROUGH_THE_LINKS) == 3
+        && are_kept(rt, before)
         && is_untouched(rt)
         && are_removed(rt, &LINKED)
 }
 
 #[test]
-fn a_put_keeps_links_permissions_and_other_files(rt: HostRuntime) -> Result<(), Fail> {
+fn a_put_keeps_links_and_other_files(rt: HostRuntime) -> Result<(), Fail> {
     let mut files = system_files(&rt)?;
     assert!(rt; keep_links(&rt, &mut files));
+    Ok(())
+}
+
+static MODES: [Step; 2] = [
+    Step::Put("outer_edge.shared", b"newer", Ok(())),
+    Step::Put("outer_edge.made", b"new", Ok(())),
+];
+
+/// Whether a file that all may write stays so, and one that wasn't there is made as the system makes one.
+fn keep_modes(rt: &HostRuntime, files: &mut RealFiles<HostRuntime>) -> bool {
+    let is_made = fs::write(rt, "outer_edge.shared", b"old").is_ok();
+    let usual = mode_of(rt, "outer_edge.shared");
+    is_made
+        && fs::set_permissions(rt, "outer_edge.shared", Permissions::from_mode(0o666)).is_ok()
+        && system_answered(rt.alloc(), files, &MODES) == 2
+        && mode_of(rt, "outer_edge.shared") == Some(0o666)
+        && mode_of(rt, "outer_edge.made") == usual
+        && are_removed(rt, &["outer_edge.shared", "outer_edge.made"])
+}
+
+#[test]
+fn a_put_keeps_permissions(rt: HostRuntime) -> Result<(), Fail> {
+    let mut files = system_files(&rt)?;
+    assert!(rt; keep_modes(&rt, &mut files));
+    Ok(())
+}
+
+static NOT_PLAIN: [Step; 2] = [
+    Step::Read("/dev/null", 0, Err(FileEnd::Failed)),
+    Step::Read(".", 0, Err(FileEnd::Failed)),
+];
+
+#[test]
+fn what_is_no_plain_file_is_not_opened(rt: HostRuntime) -> Result<(), Fail> {
+    let opened = Cell::new(0);
+    let mut files = faulty_files(&rt, Fault::Nothing, &opened)?;
+    assert!(rt; faulty_answered(rt.alloc(), &mut files, &NOT_PLAIN) == 2);
+    assert!(rt; opened.get() == 0);
+    Ok(())
+}
+
+static EXCHANGED: [Step; 1] = [Step::Read(FAULTY, 0, Err(FileEnd::Failed))];
+
+fn is_exchanged(rt: &HostRuntime, files: &mut RealFiles<FaultyDisk<'_>>) -> bool {
+    make_old(rt, Fault::Exchanged)
+        && faulty_answered(rt.alloc(), files, &EXCHANGED) == 1
+        && is_removed(rt, FAULTY)
+}
+
+#[test]
+fn what_is_no_plain_file_once_open_is_not_read(rt: HostRuntime) -> Result<(), Fail> {
+    let opened = Cell::new(0);
+    let mut files = faulty_files(&rt, Fault::Exchanged, &opened)?;
+    assert!(rt; is_exchanged(&rt, &mut files));
     Ok(())
 }
 
@@ -695,9 +834,9 @@ fn narrow_out<'a>(alloc: Global, taken: &'a Cell<usize>) -> Result<RealOut<Narro
     Ok(RealOut::new(&Narrow { taken }, alloc)?)
 }
 
-/// Whether a call takes four bytes of a text, one of nine goes in pieces, and the last has room for three of its four.
-fn takes_pieces(out: &mut RealOut<Narrow<'_>>, taken: &Cell<usize>) -> bool {
-    writes_once(out, 100, b"three\n", Ok(4))
+/// Whether a call takes four bytes of a long text, one of nine goes in pieces, and the last has room for three of its four.
+fn takes_pieces(out: &mut RealOut<Narrow<'_>>, taken: &Cell<usize>, long: &[u8]) -> bool {
+    writes_once(out, 2_000_000, long, Ok(4))
         && writes_whole(out, 100, b"nine more", Ok(()))
         && taken.get() == 13
         && writes_whole(out, 100, b"full", Err(Failed))
@@ -708,6 +847,7 @@ fn takes_pieces(out: &mut RealOut<Narrow<'_>>, taken: &Cell<usize>) -> bool {
 fn a_narrow_pipe_takes_a_text_in_pieces(rt: HostRuntime) -> Result<(), Fail> {
     let taken = Cell::new(0);
     let mut out = narrow_out(rt.alloc(), &taken)?;
-    assert!(rt; takes_pieces(&mut out, &taken));
+    let long = long_text(rt.alloc())?;
+    assert!(rt; takes_pieces(&mut out, &taken, long.as_slice()));
     Ok(())
 }
