@@ -3,3 +3,4 @@ pub mod Planning
 pub mod Pushed
 pub mod Shaped
 pub mod Tried
+pub mod Typing

@@ -5,5 +5,5 @@ use Rattle.run_commands.proofs.typed.measured_lines.Goals as goal
 pub push_widest-requires : goal.push_widest-requires
 push_widest-requires c = band_below (cycle c.args.artery.now c.args.made.now.timing) c.args.made.now.outbound c.requires.outbound
 
-pub push_widest-2-requires : goal.push_widest-2-requires
-push_widest-2-requires c = band_below (cycle c.args.artery.now c.args.made.now.timing) c.args.made.now.inbound c.requires.inbound
+pub push_widest-requires-2 : goal.push_widest-requires-2
+push_widest-requires-2 c = band_below (cycle c.args.artery.now c.args.made.now.timing) c.args.made.now.inbound c.requires.inbound
