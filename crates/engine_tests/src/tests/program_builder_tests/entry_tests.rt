@@ -85,8 +85,8 @@ fn enter_part(
     requires memory { IsMemoryOf split.artery.now memory.old }
     ensures dual { IfOk result (λ _. IsDual tableau.new.table) }
     ensures unspent { IfOk result (λ _. tableau.new.spent ≡ false) }
-    ensures made { IfOk result (λ _. IsMadeFor split.artery.now tableau.new) }
-    ensures memory { IfOk result (λ _. IsMemoryOf split.artery.now memory.new) }
+    ensures made { IfOk result (λ _. IsMadeFor split.entry.artery.now tableau.new) }
+    ensures memory { IfOk result (λ _. IsMemoryOf split.entry.artery.now memory.new) }
 {
     let is_entry = enter_remembering(tableau, split.rows, split.artery, area, split.basis, memory)?;
     let left = tableau.basis(alloc)?;
