@@ -1,4 +1,4 @@
--- The number of each cause, and of words that are no text, of which there is no run; and which causes are answers.
+-- The number of each cause, and of words that are no text, of which there is no run; and which causes commands find.
 use Rattle.std.specs.Prelude.{ℕ}
 use Rattle.run_inputs.specs.declared.cause.Cause.{Cause}
 use Rattle.run_inputs.specs.declared.cause.Cause.TheVariants as cause
@@ -18,13 +18,16 @@ number_of cause.WriteFault = 7
 number_of cause.Memory = 8
 number_of (cause.TooLong file) = 9
 number_of (cause.Unplanned end) = 10
+number_of cause.Untimed = 10
 number_of (cause.Unmatched end) = 11
+number_of (cause.TooFine ticks) = 11
 
 abbrev pub no_words : ℕ
 no_words = 12
 
--- an answer that neither a fault nor want of memory gave
+-- a cause that a command finds, once its files were read: no fault, no want of memory, and no words that aren't understood
 abbrev pub IsReached : Cause → Type 0
+IsReached cause.Words = ⊥
 IsReached (cause.ReadFault file) = ⊥
 IsReached cause.WriteFault = ⊥
 IsReached cause.Memory = ⊥
