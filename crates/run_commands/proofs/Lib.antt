@@ -4,3 +4,5 @@ pub mod Pushed
 pub mod Shaped
 pub mod Tried
 pub mod Typing
+pub mod Room
+pub mod Limits
