@@ -10,7 +10,7 @@ use Rattle.run_commands.specs.Words.{Request}
 use Rattle.maxband_run.specs.declared.finish.Put.{Put}
 use Rattle.maxband_run.specs.Outside.{put_view, Outside, IsPut, IsDone, IsUntouched, PutFailed, WriteFailed, IsBroken, OthersKept, PutsCounted}
 use Rattle.maxband_run.specs.Run.{Question, question, Answers, Ends}
-use Rattle.run_inputs.specs.Status.{IsReached}
+use Rattle.run_inputs.specs.Status.{IsOwnAnswer}
 use Rattle.run_inputs.specs.declared.cause.Cause.{Cause}
 use Rattle.run_inputs.specs.declared.cause.Cause.TheVariants as cause
 use Rattle.run_inputs.proofs.Stopped.{same_at, IsStop, stops_stop, stops_room}
@@ -27,15 +27,15 @@ stop_answer cause.WriteFault h = h
 stop_answer cause.Memory h = h
 stop_answer c h = tt
 
-reached_answer : (c : Cause) → IsReached c → IsAnswer c
-reached_answer cause.WriteFault h = h
-reached_answer cause.Memory h = h
-reached_answer c h = tt
+own_answer : (c : Cause) (b : Option (List ℕ)) → IsOwnAnswer c b → IsAnswer c
+own_answer cause.WriteFault b h = h
+own_answer cause.Memory b h = h
+own_answer c b h = tt
 
 finds_answer : (asked : Option Request) (v : Values (question asked).readers) (c : Cause) (l : List ℕ) (b : Option (List ℕ))
     → (question asked).finds v (question asked).settings c l b → IsAnswer c
 finds_answer None v c l b h = subst IsAnswer (sym h.0) tt
-finds_answer (Some r) v c l b h = reached_answer c h.1
+finds_answer (Some r) v c l b h = own_answer c b h.answer
 
 answer_cause : (held : List ℕ → Option (List ℕ)) (before after : List ℕ → ℕ) (asked : Option Request) (c : Cause) (lines : List ℕ) (put : Option NamedBytes)
     → Answers held before after (question asked) c lines put → IsAnswer c

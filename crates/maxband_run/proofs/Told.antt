@@ -7,7 +7,7 @@ use Rattle.outer_edge.specs.declared.files.Files.{Ghosts}
 use Rattle.run_inputs.specs.Lines.{words_line}
 use Rattle.run_inputs.specs.Puts.{put_of, bytes_of}
 use Rattle.run_inputs.specs.Reading.{Value, Values, AreRead, WereRead, WasUnread, end_of}
-use Rattle.run_inputs.specs.Status.{IsReached}
+use Rattle.run_inputs.specs.Status.{IsOwnAnswer}
 use Rattle.run_inputs.specs.declared.cause.Cause.{Cause}
 use Rattle.run_inputs.specs.declared.cause.Cause.TheVariants as cause
 use Rattle.run_inputs.specs.declared.found.Found.{Found}
@@ -17,7 +17,7 @@ use Rattle.run_inputs.specs.declared.reader.Reader.{Reader}
 use Rattle.run_inputs.specs.declared.reader.Reader.TheVariants.{Description, Timing, Certificate, LinkCertificate, Timed, TypedPlan}
 use Rattle.run_commands.specs.Requested.{value_as, both, values_as, FindsAs}
 use Rattle.run_commands.specs.Settings.{Settings}
-use Rattle.run_commands.specs.Table.{readers, Finds}
+use Rattle.run_commands.specs.Table.{readers, Finds, IsOwnEnd}
 use Rattle.run_commands.specs.Words.{Request}
 use Rattle.run_commands.specs.declared.table.Usage.{Usage}
 use Rattle.maxband_run.specs.Run.{Question, question, ask, IsAnswered}
@@ -70,11 +70,11 @@ wanting q counts = record { told = tt; memory = counts }
 
 -- what is found is told
 pub tells : {F : Type 0} {files : Ghosts F} {before now : F} (r : Request) (u : Usage) (rs : List Reader) (e : rs ≡ readers u) (v : Values rs) (a : Found)
-    → WereRead files before now rs r.reads v → FindsAs u r.settings a.cause a.lines.items (bytes_of a) rs v → IsReached a.cause → IsAnswered files before now (ask u r) (Ok a)
-tells {files = files} {before = before} r u rs e v a read h reached =
+    → WereRead files before now rs r.reads v → FindsAs u r.settings a.cause a.lines.items (bytes_of a) rs v → IsOwnEnd u a.cause → IsOwnAnswer a.cause (bytes_of a) → IsAnswered files before now (ask u r) (Ok a)
+tells {files = files} {before = before} r u rs e v a read h ends answer =
     let k = by_values (files.holds before) r.reads r.settings u rs e v a.cause a.lines.items (bytes_of a) h read.read in
     record {
-      told = inr (record { values = k.0; read = k.1; counts = read.counts; bytes = bytes_of a; finds = (k.2, reached); put_is = refl });
+      told = inr (record { values = k.0; read = k.1; counts = read.counts; bytes = bytes_of a; finds = record { finds = k.2; ends = ends; answer = answer }; put_is = refl });
       memory = tt;
     }
 

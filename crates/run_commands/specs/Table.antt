@@ -1,8 +1,8 @@
 -- The commands: the row of each, and what it finds.
-use Rattle.std.specs.Prelude.{ℕ, List, Option, IfSome}
+use Rattle.std.specs.Prelude.{ℕ, List, Option}
 use Rattle.run_inputs.specs.Puts.{With}
 use Rattle.run_inputs.specs.Reading.{Value, Values}
-use Rattle.run_inputs.specs.Status.{IsReached}
+use Rattle.run_inputs.specs.Status.{IsOwnAnswer}
 use Rattle.run_inputs.specs.declared.cause.Cause.{Cause}
 use Rattle.run_inputs.specs.declared.reader.Reader.{Reader}
 use Rattle.run_commands.specs.Settings.{Settings}
@@ -22,6 +22,7 @@ use Rattle.run_commands.specs.Help.{HelpFinds, VersionFinds}
 use Rattle.run_commands.specs.Make.{Makes}
 use Rattle.run_commands.specs.Trial.{IsTrial}
 use Rattle.run_commands.specs.Sweep.{IsSweep}
+use Rattle.run_commands.specs.Ends.{IsDone, IsVerdict, IsTestEnd, IsCheckEnd, IsLinkCheckEnd, IsRoundEnd, IsRoundFromEnd, IsHalfEnd, IsTypedEnd, IsDrawingEnd}
 use Rattle.run_commands.specs.declared.table.Usage.{Usage}
 use Rattle.run_commands.specs.declared.table.Usage.TheVariants.{Solve, Check, Bands, Round, RoundFrom, Half, TimingOf, Draw, Renew, Links, CheckLinks, Hold, Show, Make, Trial, Sweep, Help, Version}
 use Rattle.run_commands.specs.declared.table.TheConstants.{SOLVE, CHECK, BANDS, ROUND, ROUND_FROM, HALF, TIMING_OF, DRAW, RENEW, LINKS, CHECK_LINKS, HOLD, SHOW, MAKE, TRIAL, SWEEP, HELP, VERSION, USAGES}
@@ -74,6 +75,29 @@ Finds Sweep v s c lines put = With (IsSweep v.0 s.limit s.cycles c lines) put
 Finds Help v s c lines put = HelpFinds row USAGES c lines
 Finds Version v s c lines put = VersionFinds c lines
 
--- so, with a cause that commands have
-abbrev pub IsFound : (u : Usage) → Finding (readers u)
-IsFound u v s c lines put = Finds u v s c lines put × IsReached c
+-- with which causes it ends, once its files were read
+abbrev pub IsOwnEnd : Usage → Cause → Type 0
+IsOwnEnd Solve c = IsVerdict c
+IsOwnEnd Check c = IsCheckEnd c
+IsOwnEnd Bands c = IsTestEnd c
+IsOwnEnd Round c = IsRoundEnd c
+IsOwnEnd RoundFrom c = IsRoundFromEnd c
+IsOwnEnd Half c = IsHalfEnd c
+IsOwnEnd TimingOf c = IsTypedEnd c
+IsOwnEnd Draw c = IsDrawingEnd c
+IsOwnEnd Renew c = IsDone c
+IsOwnEnd Links c = IsVerdict c
+IsOwnEnd CheckLinks c = IsLinkCheckEnd c
+IsOwnEnd Hold c = IsTestEnd c
+IsOwnEnd Show c = IsDone c
+IsOwnEnd Make c = IsDone c
+IsOwnEnd Trial c = IsVerdict c
+IsOwnEnd Sweep c = IsDone c
+IsOwnEnd Help c = IsDone c
+IsOwnEnd Version c = IsDone c
+
+-- it finds this, ends so, and gives an answer of its own
+pub record IsFound (u : Usage) (v : Values (readers u)) (s : Settings) (c : Cause) (lines : List ℕ) (put : Option (List ℕ)) : Type 0 where
+  pub finds : Finds u v s c lines put
+  pub ends : IsOwnEnd u c
+  pub answer : IsOwnAnswer c put

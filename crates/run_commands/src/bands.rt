@@ -3,8 +3,9 @@
 ghost use Rattle.std.specs.Prelude.{◌≡◌, ◌++◌, ◌<◌, None, Some, IfOk, IfSome, OnOk, codes, refl};
 ghost use Rattle.progression.specs.{TimingRecord.{cycle}, Good.{IsBase}};
 ghost use Rattle.diagram_print.specs.Measures.{dir_name};
-ghost use Rattle.run_inputs.specs.Status.{IsReached};
+ghost use Rattle.run_inputs.specs.{Puts.{bytes_of}, Status.{IsOwnAnswer}};
 ghost use Rattle.run_commands.specs.Bands.{widest_line, IsMeasured, BandsFinds};
+ghost use Rattle.run_commands.specs.Ends.{IsTestEnd};
 ghost use Rattle.run_commands.specs.declared.table.Usage.TheVariants as usage;
 
 use crate::command::Command;
@@ -92,7 +93,8 @@ pub fn measured(alloc: Global, artery: &Artery, timing: &Timing) -> Result<Vec<u
 /// that speak of no band, else the answer has the first of these that it breaks.
 fn measure_bands(alloc: Global, artery: &Artery, timing: &Timing) -> Result<Found, Memory>
     ensures finds { IfOk result (λ a. BandsFinds artery.now timing.now a.cause a.lines.items) }
-    ensures reached { IfOk result (λ a. IsReached a.cause) }
+    ensures ends { IfOk result (λ a. IsTestEnd a.cause) }
+    ensures answer { IfOk result (λ a. IsOwnAnswer a.cause (bytes_of a)) }
 {
     if let Err(failing) = base_holds(artery, timing) {
         return fails(alloc, failing);

@@ -2,8 +2,9 @@
 
 ghost use Rattle.std.specs.Prelude.{◌≡◌, ◌≢◌, None, IfOk, refl};
 ghost use Rattle.progression.specs.Street.{count};
-ghost use Rattle.run_inputs.specs.Status.{IsReached};
+ghost use Rattle.run_inputs.specs.{Puts.{bytes_of}, Status.{IsOwnAnswer}};
 ghost use Rattle.run_commands.specs.{Check.{CheckFinds}, CheckLines.{accepted_line, rejected_line}};
+ghost use Rattle.run_commands.specs.Ends.{IsCheckEnd};
 ghost use Rattle.run_commands.specs.declared.table.Usage.TheVariants as usage;
 
 use crate::check_lines::{push_accepted, push_rejected};
@@ -45,7 +46,8 @@ fn check_certificate(
     certificate: &Certificate,
 ) -> Result<Found, Memory>
     ensures finds { IfOk result (λ a. CheckFinds artery.now certificate.now a.cause a.lines.items) }
-    ensures reached { IfOk result (λ a. IsReached a.cause) }
+    ensures ends { IfOk result (λ a. IsCheckEnd a.cause) }
+    ensures answer { IfOk result (λ a. IsOwnAnswer a.cause (bytes_of a)) }
 {
     match certificate_checker::check(alloc, artery, certificate) {
         Ok(()) => accepted(alloc, certificate.claim),

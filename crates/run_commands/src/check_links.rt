@@ -3,8 +3,9 @@
 ghost use Rattle.std.specs.Prelude.{◌≡◌, ◌≢◌, IfOk, refl};
 ghost use Rattle.progression.specs.Street.{count};
 ghost use Rattle.certificate_checker.specs.declared.reject.Reject.TheVariants as refusal;
-ghost use Rattle.run_inputs.specs.Status.{IsReached};
+ghost use Rattle.run_inputs.specs.{Puts.{bytes_of}, Status.{IsOwnAnswer}};
 ghost use Rattle.run_commands.specs.{Check.{CheckLinksFinds}, CheckLines.{link_rejected_line}};
+ghost use Rattle.run_commands.specs.Ends.{IsLinkCheckEnd};
 ghost use Rattle.run_commands.specs.declared.table.Usage.TheVariants as usage;
 
 use crate::check::accepted;
@@ -36,7 +37,8 @@ fn check_link_certificate(
     certificate: &LinkCertificate,
 ) -> Result<Found, Memory>
     ensures finds { IfOk result (λ a. CheckLinksFinds artery.now certificate.now a.cause a.lines.items) }
-    ensures reached { IfOk result (λ a. IsReached a.cause) }
+    ensures ends { IfOk result (λ a. IsLinkCheckEnd a.cause) }
+    ensures answer { IfOk result (λ a. IsOwnAnswer a.cause (bytes_of a)) }
 {
     match link_check(alloc, artery, certificate) {
         Ok(()) => accepted(alloc, certificate.claim),

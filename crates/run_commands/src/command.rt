@@ -1,8 +1,8 @@
 //! A command of the program.
 
 ghost use Rattle.std.specs.Prelude.{◌≡◌, IfOk};
-ghost use Rattle.run_inputs.specs.{Puts.{bytes_of}, Status.{IsReached}};
-ghost use Rattle.run_commands.specs.{Settings.{settings_view, InLimits}, Table.{readers}, Requested.{FindsAs}};
+ghost use Rattle.run_inputs.specs.{Puts.{bytes_of}, Status.{IsOwnAnswer}};
+ghost use Rattle.run_commands.specs.{Settings.{settings_view, InLimits}, Table.{readers, IsOwnEnd}, Requested.{FindsAs}};
 ghost use Rattle.run_commands.specs.declared.table.Usage.{Usage};
 
 use crate::settings::Settings;
@@ -26,7 +26,8 @@ pub trait Command {
     ) -> Result<Found, Memory>
         requires { InLimits (settings_view settings.now) }
         ensures finds { IfOk result (λ a. FindsAs usage (settings_view settings.now) a.cause a.lines.items (bytes_of a) Self.Reads.readers (Self.Reads.values read.now)) }
-        ensures reached { IfOk result (λ a. IsReached a.cause) };
+        ensures ends { IfOk result (λ a. IsOwnEnd usage a.cause) }
+        ensures answer { IfOk result (λ a. IsOwnAnswer a.cause (bytes_of a)) };
 
     /// They have the readers of its row.
     ghost same: { Self.Reads.readers ≡ readers usage };

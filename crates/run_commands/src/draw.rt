@@ -2,8 +2,9 @@
 
 ghost use Rattle.std.specs.Prelude.{◌≡◌, None, IfOk, length, option_map, refl};
 ghost use Rattle.progression.specs.Street.{count};
-ghost use Rattle.run_inputs.specs.{Puts.{bytes_of}, Status.{IsReached}};
+ghost use Rattle.run_inputs.specs.{Puts.{bytes_of}, Status.{IsOwnAnswer}};
 ghost use Rattle.run_commands.specs.{Lines.{untimed_line}, Draw.{drawn_lines, TimingFinds, DrawFinds}};
+ghost use Rattle.run_commands.specs.Ends.{IsDrawingEnd};
 ghost use Rattle.run_commands.specs.declared.table.Usage.TheVariants as usage;
 
 use crate::command::Command;
@@ -39,7 +40,8 @@ fn draw_shaped(
 ) -> Result<Found, Memory>
     requires { length timing.now.patterns ≡ count artery.now }
     ensures finds { IfOk result (λ a. TimingFinds artery.now timing.now (option_map (λ word. word.now) title.entry) a.cause a.lines.items (bytes_of a)) }
-    ensures reached { IfOk result (λ a. IsReached a.cause) }
+    ensures ends { IfOk result (λ a. IsDrawingEnd a.cause) }
+    ensures answer { IfOk result (λ a. IsOwnAnswer a.cause (bytes_of a)) }
 {
     let lines = drawn_lines(alloc, broken(artery, timing))?;
     let bytes = draw(alloc, artery, timing, title)?;
@@ -59,7 +61,8 @@ fn draw_any(
     title: Option<&str>,
 ) -> Result<Found, Memory>
     ensures finds { IfOk result (λ a. TimingFinds artery.now timing.now (option_map (λ word. word.now) title.entry) a.cause a.lines.items (bytes_of a)) }
-    ensures reached { IfOk result (λ a. IsReached a.cause) }
+    ensures ends { IfOk result (λ a. IsDrawingEnd a.cause) }
+    ensures answer { IfOk result (λ a. IsOwnAnswer a.cause (bytes_of a)) }
 {
     if timing.count() != artery.count() {
         return fails(alloc, Failing::Shape);
@@ -87,7 +90,8 @@ fn draw_timing(
     title: Option<&str>,
 ) -> Result<Found, Memory>
     ensures finds { IfOk result (λ a. DrawFinds artery.now timed.now.timing (option_map (λ word. word.now) title.entry) a.cause a.lines.items (bytes_of a)) }
-    ensures reached { IfOk result (λ a. IsReached a.cause) }
+    ensures ends { IfOk result (λ a. IsDrawingEnd a.cause) }
+    ensures answer { IfOk result (λ a. IsOwnAnswer a.cause (bytes_of a)) }
 {
     match &timed.timing {
         Some(timing) => draw_any(alloc, artery, timing, title),

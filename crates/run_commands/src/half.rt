@@ -2,8 +2,9 @@
 
 ghost use Rattle.std.specs.Prelude.{◌≡◌, ◌≤◌, ◌++◌, None, IfOk, OnOk, length, refl};
 ghost use Rattle.progression.specs.Street.{count};
-ghost use Rattle.run_inputs.specs.{Puts.{bytes_of}, Status.{IsReached}};
+ghost use Rattle.run_inputs.specs.{Puts.{bytes_of}, Status.{IsOwnAnswer}};
 ghost use Rattle.run_commands.specs.Half.{phase_name, phase_line, phase_lines, half_lines, ticks_line, end_line, TellsPlan, HalfFinds};
+ghost use Rattle.run_commands.specs.Ends.{IsHalfEnd};
 ghost use Rattle.run_commands.specs.declared.table.Usage.TheVariants as usage;
 
 use crate::command::Command;
@@ -112,7 +113,8 @@ fn tell_plan(alloc: Global, artery: &Artery, plan: &Timing) -> Result<Found, Mem
 /// timing breaks a rule that speaks of no band or can't have such a plan.
 fn half_cycle(alloc: Global, artery: &Artery, timing: &Timing) -> Result<Found, Memory>
     ensures finds { IfOk result (λ a. HalfFinds artery.now timing.now a.cause a.lines.items (bytes_of a)) }
-    ensures reached { IfOk result (λ a. IsReached a.cause) }
+    ensures ends { IfOk result (λ a. IsHalfEnd a.cause) }
+    ensures answer { IfOk result (λ a. IsOwnAnswer a.cause (bytes_of a)) }
 {
     match half(alloc, artery, timing) {
         Ok(Some(plan)) => tell_plan(alloc, artery, &plan),

@@ -1,9 +1,10 @@
 //! The commands `--help` and `--version`.
 
 ghost use Rattle.std.specs.Prelude.{◌≡◌, ◌++◌, IfOk, OnOk, flat_map, refl};
-ghost use Rattle.run_inputs.specs.Status.{IsReached};
+ghost use Rattle.run_inputs.specs.{Puts.{bytes_of}, Status.{IsOwnAnswer}};
 ghost use Rattle.run_commands.specs.{Help.{version_text, help_text, HelpFinds, VersionFinds}, Table.{row}};
 ghost use Rattle.run_commands.specs.declared.table.TheConstants.{USAGES};
+ghost use Rattle.run_commands.specs.Ends.{IsDone};
 ghost use Rattle.run_commands.specs.declared.table.Usage.TheVariants as usage;
 
 use crate::command::Command;
@@ -59,7 +60,8 @@ fn help_text(alloc: Global) -> Result<Vec<u8>, Memory>
 /// Tells each command, and where the statuses are told.
 fn tell_usages(alloc: Global) -> Result<Found, Memory>
     ensures finds { IfOk result (λ a. HelpFinds row USAGES a.cause a.lines.items) }
-    ensures reached { IfOk result (λ a. IsReached a.cause) }
+    ensures ends { IfOk result (λ a. IsDone a.cause) }
+    ensures answer { IfOk result (λ a. IsOwnAnswer a.cause (bytes_of a)) }
 {
     let lines = help_text(alloc)?;
     Ok(told(Cause::Done, lines))
@@ -68,7 +70,8 @@ fn tell_usages(alloc: Global) -> Result<Found, Memory>
 /// Tells the program's version, and the versions and formats that it reads.
 fn tell_version(alloc: Global) -> Result<Found, Memory>
     ensures finds { IfOk result (λ a. VersionFinds a.cause a.lines.items) }
-    ensures reached { IfOk result (λ a. IsReached a.cause) }
+    ensures ends { IfOk result (λ a. IsDone a.cause) }
+    ensures answer { IfOk result (λ a. IsOwnAnswer a.cause (bytes_of a)) }
 {
     let lines = version_text(alloc)?;
     Ok(told(Cause::Done, lines))

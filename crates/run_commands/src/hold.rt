@@ -1,8 +1,9 @@
 //! The command `hold`.
 
 ghost use Rattle.std.specs.Prelude.{◌≡◌, ◌++◌, None, IfOk, OnOk, refl};
-ghost use Rattle.run_inputs.specs.Status.{IsReached};
+ghost use Rattle.run_inputs.specs.{Puts.{bytes_of}, Status.{IsOwnAnswer}};
 ghost use Rattle.run_commands.specs.{Hold.{HoldFinds, IsJudged, verdict_line}, Lines.{fails_line, holds_lines}};
+ghost use Rattle.run_commands.specs.Ends.{IsTestEnd};
 ghost use Rattle.run_commands.specs.declared.table.Usage.TheVariants as usage;
 
 use crate::command::Command;
@@ -58,7 +59,8 @@ pub fn fails(alloc: Global, failing: Failing) -> Result<Found, Memory>
 /// Tests the timing on the artery: the answer has its weighted band where it holds, else the first rule that it breaks.
 fn hold_timing(alloc: Global, artery: &Artery, timing: &Timing) -> Result<Found, Memory>
     ensures finds { IfOk result (λ a. HoldFinds artery.now timing.now a.cause a.lines.items) }
-    ensures reached { IfOk result (λ a. IsReached a.cause) }
+    ensures ends { IfOk result (λ a. IsTestEnd a.cause) }
+    ensures answer { IfOk result (λ a. IsOwnAnswer a.cause (bytes_of a)) }
 {
     match holds(artery, timing) {
         Ok(()) => {

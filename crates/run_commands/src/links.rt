@@ -2,8 +2,9 @@
 
 ghost use Rattle.std.specs.Prelude.{IfOk, refl};
 ghost use Rattle.work_meter.specs.Work.{IsBelow};
-ghost use Rattle.run_inputs.specs.{Puts.{With, bytes_of}, Status.{IsReached}};
+ghost use Rattle.run_inputs.specs.{Puts.{With, bytes_of}, Status.{IsOwnAnswer}};
 ghost use Rattle.run_commands.specs.Links.{IsLinkSolution};
+ghost use Rattle.run_commands.specs.Ends.{IsVerdict};
 ghost use Rattle.run_commands.specs.declared.table.Usage.TheVariants as usage;
 
 use crate::command::Command;
@@ -21,7 +22,8 @@ use std::alloc::Global;
 fn solve_links(alloc: Global, artery: &Artery, limit: Option<u64>) -> Result<Found, Memory>
     requires { IsBelow 0 limit }
     ensures finds { IfOk result (λ a. With (IsLinkSolution artery.now limit a.cause a.lines.items) (bytes_of a)) }
-    ensures reached { IfOk result (λ a. IsReached a.cause) }
+    ensures ends { IfOk result (λ a. IsVerdict a.cause) }
+    ensures answer { IfOk result (λ a. IsOwnAnswer a.cause (bytes_of a)) }
 {
     let searched = search_links_and_check(alloc, artery, limit)?;
     let text = write_links(alloc, &searched.certificate)?;

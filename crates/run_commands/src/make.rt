@@ -2,8 +2,9 @@
 
 ghost use Rattle.std.specs.Prelude.{◌≤◌, IfOk, refl};
 ghost use Rattle.run_commands.specs.Make.{Makes};
-ghost use Rattle.run_inputs.specs.Status.{IsReached};
+ghost use Rattle.run_inputs.specs.{Puts.{bytes_of}, Status.{IsOwnAnswer}};
 ghost use Rattle.artery_model.specs.Bounds.{least_signals, most_first_signals};
+ghost use Rattle.run_commands.specs.Ends.{IsDone};
 ghost use Rattle.run_commands.specs.declared.table.Usage.TheVariants as usage;
 
 use crate::command::Command;
@@ -19,7 +20,8 @@ fn make_description(alloc: Global, signals: u32, seed: u64) -> Result<Found, Mem
     requires least { least_signals ≤ signals }
     requires most { signals ≤ most_first_signals }
     ensures finds { IfOk result (λ a. Makes signals seed a.cause a.lines.items) }
-    ensures reached { IfOk result (λ a. IsReached a.cause) }
+    ensures ends { IfOk result (λ a. IsDone a.cause) }
+    ensures answer { IfOk result (λ a. IsOwnAnswer a.cause (bytes_of a)) }
 {
     let artery = make_artery(alloc, signals, seed)?;
     show_artery(alloc, &artery)

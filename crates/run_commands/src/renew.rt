@@ -1,8 +1,9 @@
 //! The command `renew`.
 
 ghost use Rattle.std.specs.Prelude.{IfOk, refl};
-ghost use Rattle.run_inputs.specs.{Puts.{With, bytes_of}, Status.{IsReached}};
+ghost use Rattle.run_inputs.specs.{Puts.{With, bytes_of}, Status.{IsOwnAnswer}};
 ghost use Rattle.run_commands.specs.Renew.{IsRenewal};
+ghost use Rattle.run_commands.specs.Ends.{IsDone};
 ghost use Rattle.run_commands.specs.declared.table.Usage.TheVariants as usage;
 
 use crate::command::Command;
@@ -16,7 +17,8 @@ use std::alloc::Global;
 /// The second text of the certificate is put.
 fn renew_certificate(alloc: Global, certificate: &Certificate) -> Result<Found, Memory>
     ensures finds { IfOk result (λ a. With (IsRenewal certificate.now a.cause a.lines.items) (bytes_of a)) }
-    ensures reached { IfOk result (λ a. IsReached a.cause) }
+    ensures ends { IfOk result (λ a. IsDone a.cause) }
+    ensures answer { IfOk result (λ a. IsOwnAnswer a.cause (bytes_of a)) }
 {
     let bytes = write_second(alloc, certificate)?;
     let lines = text_lines(alloc, "renewed\n")?;

@@ -4,8 +4,9 @@ ghost use Rattle.std.specs.Prelude.{◌≡◌, ◌≤◌, ◌++◌, None, Some, 
 ghost use Rattle.progression.specs.{Street.{count}, Good.{Good}};
 ghost use Rattle.certificate_checker.specs.{Accepted.{IsAccepted}, Claims.{ClaimHolds}};
 ghost use Rattle.diagram_print.specs.Measures.{band_line, weighted_line};
-ghost use Rattle.run_inputs.specs.{Puts.{bytes_of}, Status.{IsReached}};
+ghost use Rattle.run_inputs.specs.{Puts.{bytes_of}, Status.{IsOwnAnswer}};
 ghost use Rattle.run_commands.specs.Round.{offset_line, offset_lines, plan_lines, unplanned_line, TellsRounded, RoundFinds, RoundFromFinds};
+ghost use Rattle.run_commands.specs.Ends.{IsRoundEnd, IsRoundFromEnd};
 ghost use Rattle.run_commands.specs.declared.table.Usage.TheVariants as usage;
 
 use crate::check::rejected;
@@ -142,7 +143,8 @@ fn round_timing(
     certificate: &Certificate,
 ) -> Result<Found, Memory>
     ensures finds { IfOk result (λ a. RoundFinds artery.now certificate.now a.cause a.lines.items (bytes_of a)) }
-    ensures reached { IfOk result (λ a. IsReached a.cause) }
+    ensures ends { IfOk result (λ a. IsRoundEnd a.cause) }
+    ensures answer { IfOk result (λ a. IsOwnAnswer a.cause (bytes_of a)) }
 {
     if let Err(reject) = check(alloc, artery, certificate) {
         return rejected(alloc, artery, reject);
@@ -169,7 +171,8 @@ fn plan_good(
     requires claim { ClaimHolds artery.now certificate.now.claim certificate.now.timing }
     requires good { Good artery.now timing.now }
     ensures finds { IfOk result (λ a. RoundFromFinds artery.now certificate.now (Some timing.now) a.cause a.lines.items (bytes_of a)) }
-    ensures reached { IfOk result (λ a. IsReached a.cause) }
+    ensures ends { IfOk result (λ a. IsRoundFromEnd a.cause) }
+    ensures answer { IfOk result (λ a. IsOwnAnswer a.cause (bytes_of a)) }
 {
     let Some(claim) = limit_of(&certificate.claim) else {
         unreachable!()
@@ -191,7 +194,8 @@ fn round_other(
     timed: &Timed,
 ) -> Result<Found, Memory>
     ensures finds { IfOk result (λ a. RoundFromFinds artery.now certificate.now timed.now.timing a.cause a.lines.items (bytes_of a)) }
-    ensures reached { IfOk result (λ a. IsReached a.cause) }
+    ensures ends { IfOk result (λ a. IsRoundFromEnd a.cause) }
+    ensures answer { IfOk result (λ a. IsOwnAnswer a.cause (bytes_of a)) }
 {
     if let Err(reject) = check(alloc, artery, certificate) {
         return rejected(alloc, artery, reject);

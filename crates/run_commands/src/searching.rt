@@ -1,11 +1,11 @@
 //! The search of an artery, with the cause and the certificate's text of what it finds.
 
-ghost use Rattle.std.specs.Prelude.{◌≡◌, IfOk, IfSome};
+ghost use Rattle.std.specs.Prelude.{◌≡◌, ℕ, List, Option, IfOk, IfSome};
+ghost use Rattle.run_inputs.specs.Status.{IsOwnAnswer};
 ghost use Rattle.progression.specs.Good.{Good};
 ghost use Rattle.work_meter.specs.Work.{IsBelow};
-ghost use Rattle.run_inputs.specs.Status.{IsReached};
 ghost use Rattle.branch_tree.specs.{Certified.{warrant_of}, Searched.{IsSearched}};
-ghost use Rattle.run_commands.specs.Searched.{IsTextOf, cause_of};
+ghost use Rattle.run_commands.specs.{Searched.{IsTextOf, cause_of}, Ends.{IsVerdict}};
 
 use artery_model::Artery;
 use branch_tree::{Found, Searched, Verdict, search_and_check};
@@ -25,7 +25,8 @@ pub struct Told {
 /// The cause of a run that ends with this verdict.
 pub fn cause_of(verdict: Verdict) -> Cause
     ensures value { result ≡ cause_of verdict }
-    ensures reached { IsReached result }
+    ensures verdict { IsVerdict result }
+    ensures answer { (put : Option (List ℕ)) → IsOwnAnswer result put }
 {
     match verdict {
         Verdict::Best => Cause::Done,

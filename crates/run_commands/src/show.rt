@@ -1,8 +1,9 @@
 //! The command `show`.
 
 ghost use Rattle.std.specs.Prelude.{IfOk, refl};
-ghost use Rattle.run_inputs.specs.Status.{IsReached};
+ghost use Rattle.run_inputs.specs.{Puts.{bytes_of}, Status.{IsOwnAnswer}};
 ghost use Rattle.run_commands.specs.Show.{Shows};
+ghost use Rattle.run_commands.specs.Ends.{IsDone};
 ghost use Rattle.run_commands.specs.declared.table.Usage.TheVariants as usage;
 
 use crate::command::Command;
@@ -16,7 +17,8 @@ use std::alloc::Global;
 /// Writes the canonical description of the artery.
 pub fn show_artery(alloc: Global, artery: &Artery) -> Result<Found, Memory>
     ensures finds { IfOk result (λ a. Shows artery.now a.cause a.lines.items) }
-    ensures reached { IfOk result (λ a. IsReached a.cause) }
+    ensures ends { IfOk result (λ a. IsDone a.cause) }
+    ensures answer { IfOk result (λ a. IsOwnAnswer a.cause (bytes_of a)) }
 {
     let lines = print_artery(alloc, artery)?;
     Ok(told(Cause::Done, lines))

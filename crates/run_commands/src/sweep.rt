@@ -2,8 +2,9 @@
 
 ghost use Rattle.std.specs.Prelude.{◌≡◌, IfOk, map, string_bytes, refl};
 ghost use Rattle.work_meter.specs.Work.{IsBelow};
-ghost use Rattle.run_inputs.specs.{Puts.{With, bytes_of}, Cycles.{SpellCycles}, Status.{IsReached}};
+ghost use Rattle.run_inputs.specs.{Puts.{With, bytes_of}, Cycles.{SpellCycles}, Status.{IsOwnAnswer}};
 ghost use Rattle.run_commands.specs.Sweep.{rows_line, IsSweep};
+ghost use Rattle.run_commands.specs.Ends.{IsDone};
 ghost use Rattle.run_commands.specs.declared.table.Usage.TheVariants as usage;
 
 use crate::command::Command;
@@ -33,7 +34,8 @@ fn sweep_cycles(
     requires limit { IsBelow 0 limit }
     requires words { SpellCycles (map string_bytes words.now) }
     ensures finds { IfOk result (λ a. With (IsSweep artery.now limit (map string_bytes words.now) a.cause a.lines.items) (bytes_of a)) }
-    ensures reached { IfOk result (λ a. IsReached a.cause) }
+    ensures ends { IfOk result (λ a. IsDone a.cause) }
+    ensures answer { IfOk result (λ a. IsOwnAnswer a.cause (bytes_of a)) }
 {
     let cycles = cycles_in(alloc, words)?;
     let rows = sweep_rows(alloc, artery, limit, cycles.as_slice())?;

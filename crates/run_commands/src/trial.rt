@@ -3,8 +3,9 @@
 ghost use Rattle.std.specs.Prelude.{◌≡◌, ◌≤◌, ◌++◌, IfOk, OnOk, refl};
 ghost use Rattle.work_meter.specs.Work.{IsBelow};
 ghost use Rattle.run_commands.specs.Trial.{open_lines, claim_lines, trial_lines, IsTrial};
-ghost use Rattle.run_inputs.specs.Status.{IsReached};
+ghost use Rattle.run_inputs.specs.{Puts.{bytes_of}, Status.{IsOwnAnswer}};
 ghost use Rattle.artery_model.specs.Bounds.{least_signals, most_first_signals};
+ghost use Rattle.run_commands.specs.Ends.{IsVerdict};
 ghost use Rattle.run_commands.specs.declared.table.Usage.TheVariants as usage;
 
 use crate::command::Command;
@@ -84,7 +85,8 @@ fn search_made(
     requires most { signals ≤ most_first_signals }
     requires limit { IsBelow 0 limit }
     ensures finds { IfOk result (λ a. IsTrial signals seed limit a.cause a.lines.items) }
-    ensures reached { IfOk result (λ a. IsReached a.cause) }
+    ensures ends { IfOk result (λ a. IsVerdict a.cause) }
+    ensures answer { IfOk result (λ a. IsOwnAnswer a.cause (bytes_of a)) }
 {
     let artery = make_artery(alloc, signals, seed)?;
     let searched = search_and_tell(alloc, &artery, limit)?;

@@ -3,8 +3,9 @@
 ghost use Rattle.std.specs.Prelude.{◌≡◌, None, IfOk, refl};
 ghost use Rattle.progression.specs.TimingRecord.{cycle};
 ghost use Rattle.typed_plan.specs.Ends.{IsBelow};
-ghost use Rattle.run_inputs.specs.{Puts.{bytes_of}, Status.{IsReached}};
+ghost use Rattle.run_inputs.specs.{Puts.{bytes_of}, Status.{IsOwnAnswer}};
 ghost use Rattle.run_commands.specs.{Half.{ticks_line}, Typed.{measured_lines, WritesTiming, TypedFinds}};
+ghost use Rattle.run_commands.specs.Ends.{IsTypedEnd};
 ghost use Rattle.run_commands.specs.declared.table.Usage.TheVariants as usage;
 
 use crate::bands::push_widest;
@@ -40,7 +41,8 @@ fn write_measured(alloc: Global, artery: &Artery, made: &Measured) -> Result<Fou
     requires outbound { IsBelow (cycle artery.now made.now.timing) made.now.outbound }
     requires inbound { IsBelow (cycle artery.now made.now.timing) made.now.inbound }
     ensures finds { IfOk result (λ a. WritesTiming artery.now made.now a.cause a.lines.items (bytes_of a)) }
-    ensures reached { IfOk result (λ a. IsReached a.cause) }
+    ensures ends { IfOk result (λ a. IsTypedEnd a.cause) }
+    ensures answer { IfOk result (λ a. IsOwnAnswer a.cause (bytes_of a)) }
 {
     let mut lines = measured_lines(alloc, artery, made)?;
     push_verdict(&mut lines, broken(artery, &made.timing))?;
@@ -67,7 +69,8 @@ fn too_fine(alloc: Global, ticks: u128) -> Result<Found, Memory>
 /// is one. Nothing is put where the plan isn't of the artery, or where it has too many ticks.
 fn typed_timing(alloc: Global, artery: &Artery, plan: &TypedPlan) -> Result<Found, Memory>
     ensures finds { IfOk result (λ a. TypedFinds artery.now plan.now a.cause a.lines.items (bytes_of a)) }
-    ensures reached { IfOk result (λ a. IsReached a.cause) }
+    ensures ends { IfOk result (λ a. IsTypedEnd a.cause) }
+    ensures answer { IfOk result (λ a. IsOwnAnswer a.cause (bytes_of a)) }
 {
     artery.known_valid();
     match timing_of(alloc, artery, plan) {
