@@ -1,0 +1,6 @@
+mod Tests
+mod Multiples
+mod Speeds
+mod Moves
+mod Validity
+pub mod Timings
