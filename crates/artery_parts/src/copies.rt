@@ -60,7 +60,8 @@ fn copied_link(link: &Link) -> Link
     }
 }
 
-fn push<T: Drop>(items: &mut Vec<T>, item: T) -> Result<(), Memory>
+/// Puts an item behind the others.
+pub fn push<T: Drop>(items: &mut Vec<T>, item: T) -> Result<(), Memory>
     ensures { OnOk result (items.new.items ≡ items.old.items ++ item ∷ []) }
 {
     items.push(item)?;

@@ -7,5 +7,5 @@
 mod copies;
 mod whole;
 
-pub use copies::{copied_head, copied_links, copied_name, copied_signals};
+pub use copies::{copied_head, copied_links, copied_name, copied_signals, push};
 pub use whole::artery_of;

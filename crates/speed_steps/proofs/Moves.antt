@@ -123,10 +123,10 @@ module _ (units : Units) (length : ℕ) (some : 1 ≤ length) where
 
   -- ---- each by itself
   -- a limit that stays, or moves
-  Slowed : ℚ → Option ℚ → Type 0
+  abbrev Slowed : ℚ → Option ℚ → Type 0
   Slowed v o = (w : ℚ) → o ≡ Some w → (is_speed w ≡ true) × IsSlower units length v w
 
-  Sped : ℚ → Option ℚ → Type 0
+  abbrev Sped : ℚ → Option ℚ → Type 0
   Sped v o = (w : ℚ) → o ≡ Some w → (is_speed w ≡ true) × IsFaster units length v w
 
   slow_end : (v : ℚ) (o : Option ℚ) → is_speed v ≡ true → Slowed v o → (is_speed (unwrap_or o v) ≡ true) × IsSlower units length v (unwrap_or o v)

@@ -25,8 +25,16 @@ unfolding inverse_ℚ whole over
 inverse_zero = refl
 
 -- what gives x when it is multiplied by w is x over w
-is_quotient : (x w y : ℚ) → (w ≡ whole (pos 0) → ⊥) → y *ℚ w ≡ x → y ≡ x /ℚ w
+pub is_quotient : (x w y : ℚ) → (w ≡ whole (pos 0) → ⊥) → y *ℚ w ≡ x → y ≡ x /ℚ w
 is_quotient x w y n e = *ℚ_cancel y (x /ℚ w) w n (e ∙ sym (quotient_times x w n))
+
+-- what a speed is whose run is 0
+pub over_nothing : (a b : ℕ) (v : ℚ) → v ≡ whole (pos 0) → number a /ℚ (number b *ℚ v) ≡ whole (pos 0)
+over_nothing a b v e =
+    ap (λ t. number a *ℚ inverse_ℚ (number b *ℚ t)) e
+    ∙ ap (λ t. number a *ℚ inverse_ℚ t) (*ℚ-zero (number b))
+    ∙ ap (λ t. number a *ℚ t) inverse_zero
+    ∙ *ℚ-zero (number a)
 
 number_above : (n : ℕ) → 0 < n → whole (pos 0) <ℚ number n
 unfolding whole
@@ -59,9 +67,6 @@ module _ (a b : ℕ) (some_a : 0 < a) (some_b : 0 < b) where
       let w = turn v in
       let e : v *ℚ (number b *ℚ w) ≡ number a = *ℚ_left_comm v (number b) w ∙ ap (λ t. number b *ℚ t) (*ℚ_comm v w) ∙ *ℚ_left_comm (number b) w v ∙ product v n in
       sym (is_quotient (number a) (number b *ℚ w) v (times_b w (turn_some v n)) e)
-
-  turn_zero : turn (whole (pos 0)) ≡ whole (pos 0)
-  turn_zero = ap (λ t. number a *ℚ inverse_ℚ t) (*ℚ-zero (number b)) ∙ ap (λ t. number a *ℚ t) inverse_zero ∙ *ℚ-zero (number a)
 
   multiple : (v : ℚ) → whole (pos 0) ≤ℚ v → whole (pos 0) ≤ℚ (number b *ℚ v)
   multiple v h = product_not_negative (number b) v (<ℚ-≤ℚ _ _ above_b) h
@@ -105,8 +110,8 @@ module _ (length : ℕ) (some : 1 ≤ length) where
   above English v h = turn_above (15 * length) 22 (long 15 (omega arith)) (omega arith) v h
 
   none : (units : Units) → seconds units length (whole (pos 0)) ≡ whole (pos 0)
-  none Metric = turn_zero (18 * length) 5 (long 18 (omega arith)) (omega arith)
-  none English = turn_zero (15 * length) 22 (long 15 (omega arith)) (omega arith)
+  none Metric = over_nothing (18 * length) 5 (whole (pos 0)) refl
+  none English = over_nothing (15 * length) 22 (whole (pos 0)) refl
 
   order : (units : Units) (v w : ℚ) → whole (pos 0) <ℚ v → v ≤ℚ w → seconds units length w ≤ℚ seconds units length v
   order Metric v w h k = turn_order (18 * length) 5 (long 18 (omega arith)) (omega arith) v w h k

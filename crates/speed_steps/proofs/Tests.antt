@@ -20,8 +20,8 @@ Each P (x ∷ xs) = P x × Each P xs
 pub found : {X : Type 0} (make : ℚ → X) (test : X → Bool) (P : ℚ → Type 0) (Q : X → Type 0) → ((s : ℚ) → P s → test (make s) ≡ true → Q (make s))
     → (ss : List ℚ) → Each P ss → (x : X) → find test (map make ss) ≡ Some x → Q x
 found make test P Q h [] each x e = absurd (none-some x e)
-found {X} make test P Q h (s ∷ ss) each x e = by (test (make s)) refl e
+found {X} make test P Q h (s ∷ ss) each x e = by (test (make s)) refl (found make test P Q h ss each.1 x) e
   where
-    by : (b : Bool) → test (make s) ≡ b → cond b (Some (make s)) (find test (map make ss)) ≡ Some x → Q x
-    by true t f = subst Q (same_Some (make s) x f) (h s each.0 t)
-    by false t f = found make test P Q h ss each.1 x f
+    by : (b : Bool) → test (make s) ≡ b → (find test (map make ss) ≡ Some x → Q x) → cond b (Some (make s)) (find test (map make ss)) ≡ Some x → Q x
+    by true t rest f = subst Q (same_Some (make s) x f) (h s each.0 t)
+    by false t rest f = rest f

@@ -5,11 +5,14 @@ use Rattle.std.proofs.lemmas.Bool.Decides.{nat_tests}
 use Rattle.std.proofs.lemmas.List.{length-map}
 use Rattle.rational_theory.specs.Rational.{whole}
 use Rattle.progression.specs.Street.{Street, count}
+use Rattle.progression.specs.declared.parts.Head.{Head}
+use Rattle.progression.specs.declared.parts.Signal.{Signal}
 use Rattle.progression.specs.declared.parts.Link.{Link}
 use Rattle.progression.specs.declared.parts.Pair.{Pair}
 use Rattle.progression.specs.declared.parts.Units.{Units}
 use Rattle.artery_model.specs.Faults.{Fault, first_fault, unless, each_numbered, link_place}
 use Rattle.artery_model.specs.Limits.{in_range, at_most, pair_ranges, link_tests, link_ranges, in_order, limit_tests, link_limits, range_tests, rule_tests, artery_fault}
+use Rattle.artery_model.specs.Valid.{IsValid}
 use Rattle.artery_model.specs.declared.kind.Kind.{Kind}
 use Rattle.artery_model.specs.declared.kind.Kind.TheVariants as kind
 use Rattle.artery_model.proofs.Validity.{AllNone, each_none, passes_of}
@@ -85,10 +88,15 @@ stays_valid way a h =
     let ranges = each_none (range_tests a) all.0 in
     let rules = each_none (rule_tests a) all.1.0 in
     let links = links_pass way a.head.units (length a.links) 1 a.links ranges.1.1.1.1.0 rules.1.1.1.1.1.0 in
-    let same : length a.links ≡ length (street_moved way a).links = sym (length-map (link_moved way a.head.units) a.links) in
+    let same : length a.links ≡ length (street_moved way a).links = sym (length-map a.links (link_moved way a.head.units)) in
     let counted = subst (λ n. unless (n + 1 == count a) kind.CountMismatch (codes "link") ≡ None) same rules.0 in
     let ranged = subst (λ n. first_fault (each_numbered (link_ranges n) 1 (street_moved way a).links) ≡ None) same links.0 in
     none_of (first_fault (range_tests (street_moved way a)) ∷ first_fault (rule_tests (street_moved way a)) ∷ []) (
       none_of (range_tests (street_moved way a)) (ranges.0, (ranges.1.0, (ranges.1.1.0, (ranges.1.1.1.0, (ranged, tt))))),
       (none_of (rule_tests (street_moved way a)) (counted, (rules.1.0, (rules.1.1.0, (rules.1.1.1.0, (rules.1.1.1.1.0, (links.1, tt)))))), tt),
     )
+
+-- of any parts that are those of the moved street
+pub passes_moved : (way : Way) (a : Street) (head : Head) (signals : List Signal) (links : List Link) → head ≡ a.head → signals ≡ a.signals → links ≡ map (link_moved way a.head.units) a.links → IsValid a
+    → artery_fault (record { head = head; signals = signals; links = links }) ≡ None
+passes_moved way a head signals links h s l valid = rw (h, s, l) (stays_valid way a valid.no_fault)

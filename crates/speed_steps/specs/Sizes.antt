@@ -10,5 +10,5 @@ pub record IsStep (step : ℚ) : Type 0 where
 -- as a run between two signals is, and one that was moved
 pub record IsRun (run : ℚ) : Type 0 where
   pub least : pos 0 ≤ℤ run.num
-  pub num : unsigned_abs run.num ≤ 10 ^ 15
+  pub num : unsigned_abs run.num ≤ 10 ^ 20
   pub den : run.den ≤ 10 ^ 7

@@ -15,7 +15,6 @@ pub fn law_widen_holds_all()
 {}
 
 /// No limit of a run moves by as much as a step.
-#[tactic(auto, using(crate::proofs::Timings::runs_stay_near))]
 pub fn law_runs_stay_near()
     ensures { RunsStayNear }
 {}

@@ -1,7 +1,7 @@
 //! The steps of a run, and a speed whose run is moved to a multiple of one.
 
 ghost use Rattle.std.specs.Prelude.{◌≡◌, ◌*◌, ◌^◌, ◌<◌, ◌≤◌, pos, ◌≤ℤ◌, unsigned_abs, slice_index_or};
-ghost use Rattle.rational_theory.specs.{Rational.{whole, over, ◌*ℚ◌, ◌/ℚ◌}, Floor.{floor_ℚ, ceil_ℚ}};
+ghost use Rattle.rational_theory.specs.Rational.{whole, over, ◌*ℚ◌, ◌/ℚ◌};
 ghost use Rattle.progression.specs.Speeds.{number, seconds};
 ghost use Rattle.artery_model.specs.{Bounds.{least_distance, most_distance, least_speed, most_speed}, Valid.{IsQuantity}};
 ghost use Rattle.speed_steps.specs.{Steps.{steps, shorter, longer, faster, slower}, Sizes.{IsStep, IsRun}};
@@ -25,55 +25,66 @@ pub fn step(units: Units, place: u32) -> Frac
     }
 }
 
-/// How many steps a run has.
-fn steps_of(run: Frac, step: Frac) -> Frac
-    requires run { IsRun run }
-    requires step { IsStep step }
-    ensures value { result ≡ run /ℚ step }
-    ensures least { pos 0 ≤ℤ result.num }
-    ensures num { unsigned_abs result.num ≤ 44 * 10 ^ 15 }
+/// The numerator of a number that isn't below 0.
+fn numerator(value: Frac) -> u128
+    ensures { result ≡ unsigned_abs value.num }
 {
-    Frac::reduced(
-        run.num() * step.den(),
-        run.den().unsigned_abs() * step.num().unsigned_abs(),
-    )
+    value.num().unsigned_abs()
+}
+
+fn denominator(value: Frac) -> u128
+    ensures { result ≡ value.den }
+{
+    value.den().unsigned_abs()
+}
+
+/// `top / bottom` in lowest terms.
+fn share(top: u128, bottom: u128) -> Frac
+    requires top { top ≤ 10 ^ 30 }
+    requires above { 0 < bottom }
+    requires bottom { bottom ≤ 10 ^ 30 }
+    ensures value { result ≡ over (pos top) bottom }
+    ensures least { pos 0 ≤ℤ result.num }
+    ensures num { unsigned_abs result.num ≤ top }
+    ensures den { result.den ≤ bottom }
+{
+    Frac::reduced(top as i128, bottom)
 }
 
 /// A run of so many steps.
-fn run_of(count: i128, step: Frac) -> Frac
-    requires least { pos 0 ≤ℤ count }
-    requires most { unsigned_abs count ≤ 44 * 10 ^ 15 }
+fn run_of(count: u128, step: Frac) -> Frac
+    requires most { count ≤ 10 ^ 18 }
     requires step { IsStep step }
-    ensures value { result ≡ whole count *ℚ step }
-    ensures least { pos 0 ≤ℤ result.num }
-    ensures num { unsigned_abs result.num ≤ 10 ^ 18 }
-    ensures den { result.den ≤ 44 }
+    ensures value { result ≡ whole (pos count) *ℚ step }
+    ensures small { IsRun result }
 {
-    Frac::reduced(count * step.num(), step.den().unsigned_abs())
+    share(count * numerator(step), denominator(step))
 }
 
 /// The greatest multiple of a step that is at most a run.
 fn shorter(run: Frac, step: Frac) -> Frac
     requires run { IsRun run }
+    requires most { unsigned_abs run.num ≤ 10 ^ 10 }
     requires step { IsStep step }
     ensures value { result ≡ shorter step run }
-    ensures least { pos 0 ≤ℤ result.num }
-    ensures num { unsigned_abs result.num ≤ 10 ^ 18 }
-    ensures den { result.den ≤ 44 }
+    ensures small { IsRun result }
 {
-    run_of(steps_of(run, step).floor(), step)
+    let top = numerator(run) * denominator(step);
+    let bottom = denominator(run) * numerator(step);
+    run_of(top / bottom, step)
 }
 
 /// The least multiple of a step that is at least a run.
 fn longer(run: Frac, step: Frac) -> Frac
     requires run { IsRun run }
+    requires most { unsigned_abs run.num ≤ 10 ^ 10 }
     requires step { IsStep step }
     ensures value { result ≡ longer step run }
-    ensures least { pos 0 ≤ℤ result.num }
-    ensures num { unsigned_abs result.num ≤ 10 ^ 18 }
-    ensures den { result.den ≤ 44 }
+    ensures small { IsRun result }
 {
-    run_of(-steps_of(run, step).neg().floor(), step)
+    let top = numerator(run) * denominator(step);
+    let bottom = denominator(run) * numerator(step);
+    run_of((top + bottom - 1) / bottom, step)
 }
 
 /// `top * distance / (bottom * run)`, and 0 where the run is 0.
@@ -82,25 +93,23 @@ fn quotient(top: u32, bottom: u32, distance: u32, run: Frac) -> Frac
     requires bottom { 1 ≤ bottom }
     requires bottom_most { bottom ≤ 22 }
     requires most { distance ≤ most_distance }
-    requires least { pos 0 ≤ℤ run.num }
-    requires num { unsigned_abs run.num ≤ 10 ^ 18 }
-    requires den { run.den ≤ 44 }
+    requires run { IsRun run }
     ensures { result ≡ number (top * distance) /ℚ (number bottom *ℚ run) }
 {
-    if run.is_zero() {
+    let run_top = numerator(run);
+    if run_top == 0 {
         return Frac::whole(0);
     }
-    let top = u64::from(top * distance) * run.den() as u64;
-    let bottom = u128::from(bottom) * run.num().unsigned_abs();
-    Frac::reduced(i128::from(top), bottom)
+    share(
+        u128::from(top * distance) * denominator(run),
+        u128::from(bottom) * run_top,
+    )
 }
 
 /// The speed at which a length takes so many seconds, 0 where they are 0.
 fn speed_of(units: Units, distance: u32, run: Frac) -> Frac
     requires most { distance ≤ most_distance }
-    requires least { pos 0 ≤ℤ run.num }
-    requires num { unsigned_abs run.num ≤ 10 ^ 18 }
-    requires den { run.den ≤ 44 }
+    requires run { IsRun run }
     ensures { result ≡ seconds units distance run }
 {
     match units {

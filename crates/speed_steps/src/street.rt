@@ -1,6 +1,6 @@
 //! The street with its limits moved.
 
-ghost use Rattle.std.specs.Prelude.{◌≡◌, ◌++◌, ◌<◌, ◌≤◌, [], ◌∷◌, All, IfOk, OnOk, map, sum_by};
+ghost use Rattle.std.specs.Prelude.{◌≡◌, ◌<◌, ◌≤◌, All, IfOk, map, sum_by};
 ghost use Rattle.progression.specs.Street.{count};
 ghost use Rattle.artery_model.specs.Valid.{IsLink};
 ghost use Rattle.speed_steps.specs.Moved.{link_moved, street_moved, stays, link_changes, limits_changed};
@@ -8,7 +8,7 @@ ghost use Rattle.speed_steps.specs.Moved.{link_moved, street_moved, stays, link_
 use crate::limits::{changes, limits_moved, moved};
 use crate::way::Way;
 use artery_model::{Artery, Dir, Link, Units};
-use artery_parts::{artery_of, copied_head, copied_signals};
+use artery_parts::{artery_of, copied_head, copied_signals, push};
 use narrow_fraction::Memory;
 use std::alloc::Global;
 
@@ -24,13 +24,6 @@ fn link_moved(way: Way, units: Units, link: &Link) -> Link
         change_out: link.change_out,
         change_in: link.change_in,
     }
-}
-
-fn push(links: &mut Vec<Link>, link: Link) -> Result<(), Memory>
-    ensures { OnOk result (links.new.items ≡ links.old.items ++ link ∷ []) }
-{
-    links.push(link)?;
-    Ok(())
 }
 
 fn links_moved(alloc: Global, way: Way, units: Units, links: &[Link]) -> Result<Vec<Link>, Memory>
