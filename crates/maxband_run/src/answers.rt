@@ -16,6 +16,7 @@ use run_commands::help::{Help, Version};
 use run_commands::hold::Hold;
 use run_commands::links::Links;
 use run_commands::make::Make;
+use run_commands::narrow::{Narrow, Widen};
 use run_commands::renew::Renew;
 use run_commands::round::{Round, RoundFrom};
 use run_commands::show::Show;
@@ -85,6 +86,8 @@ fn answer_by<F: Files>(
         Usage::CheckLinks => answer_of::<CheckLinks, F>(alloc, request, files),
         Usage::Hold => answer_of::<Hold, F>(alloc, request, files),
         Usage::Show => answer_of::<Show, F>(alloc, request, files),
+        Usage::Narrow => answer_of::<Narrow, F>(alloc, request, files),
+        Usage::Widen => answer_of::<Widen, F>(alloc, request, files),
         Usage::Make => answer_of::<Make, F>(alloc, request, files),
         Usage::Trial => answer_of::<Trial, F>(alloc, request, files),
         Usage::Sweep => answer_of::<Sweep, F>(alloc, request, files),

@@ -1,5 +1,6 @@
 mod Below
 pub mod Planning
+mod Bounding
 pub mod Pushed
 pub mod Shaped
 pub mod Tried

@@ -21,6 +21,7 @@ use Rattle.second_plan.specs.Ends.{Ends}
 use Rattle.second_plan.specs.declared.answer.Plan.{Plan as Rounded}
 use Rattle.second_plan.specs.declared.answer.PlanEnd.{PlanEnd}
 use Rattle.second_plan.specs.declared.answer.PlanEnd.TheVariants as end
+use Rattle.run_commands.specs.Bound.{IsBound}
 use Rattle.run_commands.specs.Round.{unplanned_line, IsCertified, IsRounded, Unplans, TellsRounded, RoundFinds, RoundFromFinds}
 use Rattle.run_inputs.specs.declared.cause.Cause.TheVariants as cause
 use Rattle.run_inputs.specs.Puts.{bytes_of}
@@ -69,9 +70,9 @@ some_claim a (Best value) timing t h good e = absurd cc
 some_claim a NoTiming timing t h good e = h t good
 some_claim a (Stopped bound value) timing t h good e = absurd cc
 
-module _ (a : Street) (w : Warrant) (given : Option TimingRecord) (timing : TimingRecord) (claim : ℚ) (certified : IsCertified a w given timing claim) where
+module _ (Accepts : Street → Warrant → Type 0) (a : Street) (w : Warrant) (given : Option TimingRecord) (timing : TimingRecord) (claim : ℚ) (certified : IsCertified Accepts a w given timing claim) where
   rounded : (plan : Rounded) (x : Found) → IsAnswer a claim timing plan → IsBestOfOffsets a plan.timing → number 0 ≤ℚ plan.loss
-      → TellsRounded a plan x.cause x.lines.items (bytes_of x) → IsRounded a w given x.lines.items (timing_text plan.timing)
+      → TellsRounded a plan x.cause x.lines.items (bytes_of x) → IsRounded Accepts a w given x.lines.items (timing_text plan.timing)
   rounded plan x answer best loss h = record {
     timing = timing;
     claim = claim;
@@ -85,15 +86,16 @@ module _ (a : Street) (w : Warrant) (given : Option TimingRecord) (timing : Timi
     read_back = h.read_back;
   }
 
-  unplans_of : (e : PlanEnd) → Ends a claim timing e → Unplans a w given e
+  unplans_of : (e : PlanEnd) → Ends a claim timing e → Unplans Accepts a w given e
   unplans_of end.NoTimingGiven h = absurd h
   unplans_of e h = (timing, claim, certified, h)
 
+module _ (a : Street) (w : Warrant) (given : Option TimingRecord) (timing : TimingRecord) (claim : ℚ) (certified : IsCertified IsBound a w given timing claim) where
   -- what is found of a plan
   pub from_told : (plan : Rounded) (r : Result Found Memory) → IsAnswer a claim timing plan → IsBestOfOffsets a plan.timing → number 0 ≤ℚ plan.loss
       → IfOk r (λ x. TellsRounded a plan x.cause x.lines.items (bytes_of x)) → IfOk r (λ x. RoundFromFinds a w given x.cause x.lines.items (bytes_of x))
   from_told plan (Ok x) answer best loss h =
-      subst (λ (c : Cause). RoundFromFinds a w given c x.lines.items (bytes_of x)) (sym h.cause_is) (timing_text plan.timing, h.put_is, rounded plan x answer best loss h)
+      subst (λ (c : Cause). RoundFromFinds a w given c x.lines.items (bytes_of x)) (sym h.cause_is) (timing_text plan.timing, h.put_is, rounded IsBound a w given timing claim certified plan x answer best loss h)
   from_told plan (Err m) answer best loss h = tt
 
   -- and of a timing that has none
@@ -102,16 +104,16 @@ module _ (a : Street) (w : Warrant) (given : Option TimingRecord) (timing : Timi
       → IfOk r (λ x. RoundFromFinds a w given x.cause x.lines.items (bytes_of x))
   from_unplanned e (Ok x) h c l n =
       subst (λ (d : Cause). RoundFromFinds a w given d x.lines.items (bytes_of x)) (sym c)
-      (record { first = unplans_of e h; lines_are = l; no_put = ap (option_map (λ b. b.items)) n })
+      (record { first = unplans_of IsBound a w given timing claim certified e h; lines_are = l; no_put = ap (option_map (λ b. b.items)) n })
   from_unplanned e (Err m) h c l n = tt
 
 -- of the certificate's own timing the same is found, but that it never breaks a rule
-module _ (a : Street) (w : Warrant) (timing : TimingRecord) (claim : ℚ) (certified : IsCertified a w w.timing timing claim) where
+module _ (a : Street) (w : Warrant) (timing : TimingRecord) (claim : ℚ) (certified : IsCertified IsAccepted a w w.timing timing claim) where
   pub round_told : (plan : Rounded) (r : Result Found Memory) → IsAnswer a claim timing plan → IsBestOfOffsets a plan.timing → number 0 ≤ℚ plan.loss
       → IfOk r (λ x. TellsRounded a plan x.cause x.lines.items (bytes_of x)) → IfOk r (λ x. RoundFinds a w x.cause x.lines.items (bytes_of x))
   round_told plan (Ok x) answer best loss h =
       subst (λ (c : Cause). RoundFinds a w c x.lines.items (bytes_of x)) (sym h.cause_is)
-      (timing_text plan.timing, h.put_is, rounded a w w.timing timing claim certified plan x answer best loss h)
+      (timing_text plan.timing, h.put_is, rounded IsAccepted a w w.timing timing claim certified plan x answer best loss h)
   round_told plan (Err m) answer best loss h = tt
 
   pub unplanned_told : (e : PlanEnd) (r : Result Found Memory) → Ends a claim timing e
@@ -119,5 +121,5 @@ module _ (a : Street) (w : Warrant) (timing : TimingRecord) (claim : ℚ) (certi
       → IfOk r (λ x. RoundFinds a w x.cause x.lines.items (bytes_of x))
   unplanned_told e (Ok x) h c l n =
       subst (λ (d : Cause). RoundFinds a w d x.lines.items (bytes_of x)) (sym c)
-      (record { first = unplans_of a w w.timing timing claim certified e h; lines_are = l; no_put = ap (option_map (λ b. b.items)) n })
+      (record { first = unplans_of IsAccepted a w w.timing timing claim certified e h; lines_are = l; no_put = ap (option_map (λ b. b.items)) n })
   unplanned_told e (Err m) h c l n = tt

@@ -10,10 +10,12 @@ pub mod Solve
 pub mod Links
 pub mod Renew
 pub mod Bands
+pub mod Bound
 pub mod Round
 pub mod Half
 pub mod Typed
 pub mod Draw
+pub mod Narrow
 pub mod Make
 pub mod Settings
 pub mod Rows

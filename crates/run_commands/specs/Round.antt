@@ -18,6 +18,7 @@ use Rattle.plan_text.specs.Spelling.{timing_text}
 use Rattle.plan_text.specs.Reading.{timing_of}
 use Rattle.certificate_checker.specs.Accepted.{IsAccepted, limit_of}
 use Rattle.diagram_print.specs.Measures.{dir_name, band_line, weighted_line}
+use Rattle.speed_steps.specs.Moved.{widen}
 use Rattle.second_plan.specs.Planned.{IsAnswer, IsBestOfOffsets}
 use Rattle.second_plan.specs.Ends.{Ends}
 use Rattle.second_plan.specs.declared.answer.Plan.{Plan as Rounded}
@@ -28,6 +29,7 @@ use Rattle.run_commands.specs.Lines.{failing_text, fails_line, untimed_line}
 use Rattle.run_commands.specs.Sought.{whole_bands}
 use Rattle.run_commands.specs.Checked.{whole_checked}
 use Rattle.run_commands.specs.Check.{Rejects}
+use Rattle.run_commands.specs.Bound.{IsBound, IsRefused}
 use Rattle.run_inputs.specs.declared.cause.Cause.{Cause}
 use Rattle.run_inputs.specs.declared.cause.Cause.TheVariants as cause
 
@@ -61,19 +63,20 @@ unplanned_line (end.Fails f) = codes "no plan " ++ (failing_text f ++ codes "\n"
 unplanned_line (end.Wide w) = wide_line w
 
 -- ---- the answer
--- the certificate is accepted, this is the number that no weighted band exceeds, and the timing that is given is good
-pub record IsCertified (a : Street) (w : Warrant) (given : Option TimingRecord) (timing : TimingRecord) (claim : ℚ) : Type 0 where
+-- The certificate is accepted so, this is the number that no weighted band exceeds, and the timing that is given is good. `Accepts` is
+-- `IsAccepted`, or `IsBound` where a certificate of the widened street serves too.
+pub record IsCertified (Accepts : Street → Warrant → Type 0) (a : Street) (w : Warrant) (given : Option TimingRecord) (timing : TimingRecord) (claim : ℚ) : Type 0 where
   pub valid : IsValid a
-  pub accepted : IsAccepted a w
+  pub accepted : Accepts a w
   pub timing_is : given ≡ Some timing
   pub good : Good a timing
   pub claim_is : limit_of w.claim ≡ Some claim
 
 -- the plan in whole seconds of the given timing, what it loses at most against every timing, and its text, which is read back
-pub record IsRounded (a : Street) (w : Warrant) (given : Option TimingRecord) (lines text : List ℕ) : Type 0 where
+pub record IsRounded (Accepts : Street → Warrant → Type 0) (a : Street) (w : Warrant) (given : Option TimingRecord) (lines text : List ℕ) : Type 0 where
   pub timing : TimingRecord
   pub claim : ℚ
-  pub certified : IsCertified a w given timing claim
+  pub certified : IsCertified Accepts a w given timing claim
   pub plan : Rounded
   pub answer : IsAnswer a claim timing plan
   pub best : IsBestOfOffsets a plan.timing
@@ -83,37 +86,37 @@ pub record IsRounded (a : Street) (w : Warrant) (given : Option TimingRecord) (l
   pub read_back : timing_of text ≡ Ok plan.timing
 
 -- the certificate is accepted, and no timing is given, or the one that is has no plan, for this first reason
-abbrev pub Unplans : Street → Warrant → Option TimingRecord → PlanEnd → Type 0
-Unplans a w given end.NoTimingGiven = IsAccepted a w × (given ≡ None)
-Unplans a w given e = (timing : TimingRecord) × (claim : ℚ) × IsCertified a w given timing claim × Ends a claim timing e
+abbrev pub Unplans : (Street → Warrant → Type 0) → Street → Warrant → Option TimingRecord → PlanEnd → Type 0
+Unplans Accepts a w given end.NoTimingGiven = Accepts a w × (given ≡ None)
+Unplans Accepts a w given e = (timing : TimingRecord) × (claim : ℚ) × IsCertified Accepts a w given timing claim × Ends a claim timing e
 
-pub record IsUnplanned (a : Street) (w : Warrant) (given : Option TimingRecord) (e : PlanEnd) (lines : List ℕ) (put : Option (List ℕ)) : Type 0 where
-  pub first : Unplans a w given e
+pub record IsUnplanned (Accepts : Street → Warrant → Type 0) (a : Street) (w : Warrant) (given : Option TimingRecord) (e : PlanEnd) (lines : List ℕ) (put : Option (List ℕ)) : Type 0 where
+  pub first : Unplans Accepts a w given e
   pub lines_are : lines ≡ unplanned_line e
   pub no_put : put ≡ None
 
 -- of the certificate's own timing, which is good where it is accepted
 abbrev pub RoundFinds : Street → Warrant → Cause → List ℕ → Option (List ℕ) → Type 0
-RoundFinds a w cause.Done lines put = With (IsRounded a w w.timing lines) put
+RoundFinds a w cause.Done lines put = With (IsRounded IsAccepted a w w.timing lines) put
 RoundFinds a w (cause.Rejected reject) lines put = Rejects whole_bands whole_checked a w (cause.Rejected reject) lines × (put ≡ None)
-RoundFinds a w (cause.Unplanned e) lines put = IsUnplanned a w w.timing e lines put
+RoundFinds a w (cause.Unplanned e) lines put = IsUnplanned IsAccepted a w w.timing e lines put
 RoundFinds a w c lines put = ⊥
 
 -- the certificate is accepted, and the given timing breaks a rule, this first
 pub record IsUnfit (a : Street) (w : Warrant) (given : Option TimingRecord) (f : Failing) (lines : List ℕ) (put : Option (List ℕ)) : Type 0 where
-  pub accepted : IsAccepted a w
+  pub accepted : IsBound a w
   pub timing : TimingRecord
   pub timing_is : given ≡ Some timing
   pub first : IsFirstFailing a timing f
   pub lines_are : lines ≡ fails_line f
   pub no_put : put ≡ None
 
--- of another timing
+-- of another timing, by a certificate of the street or of the widened street
 abbrev pub RoundFromFinds : Street → Warrant → Option TimingRecord → Cause → List ℕ → Option (List ℕ) → Type 0
-RoundFromFinds a w given cause.Done lines put = With (IsRounded a w given lines) put
-RoundFromFinds a w given (cause.Rejected reject) lines put = Rejects whole_bands whole_checked a w (cause.Rejected reject) lines × (put ≡ None)
+RoundFromFinds a w given cause.Done lines put = With (IsRounded IsBound a w given lines) put
+RoundFromFinds a w given (cause.Rejected reject) lines put = Rejects whole_bands whole_checked a w (cause.Rejected reject) lines × IsRefused (widen a) w × (put ≡ None)
 RoundFromFinds a w given (cause.Fails f) lines put = IsUnfit a w given f lines put
-RoundFromFinds a w given (cause.Unplanned e) lines put = IsUnplanned a w given e lines put
+RoundFromFinds a w given (cause.Unplanned e) lines put = IsUnplanned IsBound a w given e lines put
 RoundFromFinds a w given c lines put = ⊥
 
 -- the lines of a plan, and its text, which is put

@@ -19,13 +19,15 @@ use Rattle.run_commands.specs.Half.{HalfFinds}
 use Rattle.run_commands.specs.Typed.{TypedFinds}
 use Rattle.run_commands.specs.Draw.{DrawFinds}
 use Rattle.run_commands.specs.Help.{HelpFinds, VersionFinds}
+use Rattle.speed_steps.specs.declared.way.Way.TheVariants.{Inwards, Outwards}
+use Rattle.run_commands.specs.Narrow.{IsMove}
 use Rattle.run_commands.specs.Make.{Makes}
 use Rattle.run_commands.specs.Trial.{IsTrial}
 use Rattle.run_commands.specs.Sweep.{IsSweep}
 use Rattle.run_commands.specs.Ends.{IsDone, IsVerdict, IsTestEnd, IsCheckEnd, IsLinkCheckEnd, IsRoundEnd, IsRoundFromEnd, IsHalfEnd, IsTypedEnd, IsDrawingEnd}
 use Rattle.run_commands.specs.declared.table.Usage.{Usage}
-use Rattle.run_commands.specs.declared.table.Usage.TheVariants.{Solve, Check, Bands, Round, RoundFrom, Half, TimingOf, Draw, Renew, Links, CheckLinks, Hold, Show, Make, Trial, Sweep, Help, Version}
-use Rattle.run_commands.specs.declared.table.TheConstants.{SOLVE, CHECK, BANDS, ROUND, ROUND_FROM, HALF, TIMING_OF, DRAW, RENEW, LINKS, CHECK_LINKS, HOLD, SHOW, MAKE, TRIAL, SWEEP, HELP, VERSION, USAGES}
+use Rattle.run_commands.specs.declared.table.Usage.TheVariants.{Solve, Check, Bands, Round, RoundFrom, Half, TimingOf, Draw, Renew, Links, CheckLinks, Hold, Show, Narrow, Widen, Make, Trial, Sweep, Help, Version}
+use Rattle.run_commands.specs.declared.table.TheConstants.{SOLVE, CHECK, BANDS, ROUND, ROUND_FROM, HALF, TIMING_OF, DRAW, RENEW, LINKS, CHECK_LINKS, HOLD, SHOW, NARROW, WIDEN, MAKE, TRIAL, SWEEP, HELP, VERSION, USAGES}
 
 abbrev pub row : Usage → Row
 row Solve = row_of SOLVE
@@ -41,6 +43,8 @@ row Links = row_of LINKS
 row CheckLinks = row_of CHECK_LINKS
 row Hold = row_of HOLD
 row Show = row_of SHOW
+row Narrow = row_of NARROW
+row Widen = row_of WIDEN
 row Make = row_of MAKE
 row Trial = row_of TRIAL
 row Sweep = row_of SWEEP
@@ -69,6 +73,8 @@ Finds Links v s c lines put = With (IsLinkSolution v.0 s.limit c lines) put
 Finds CheckLinks v s c lines put = CheckLinksFinds v.0 v.1.0 c lines
 Finds Hold v s c lines put = HoldFinds v.0 v.1.0 c lines
 Finds Show v s c lines put = Shows v.0 c lines
+Finds Narrow v s c lines put = With (IsMove Inwards v.0 c lines) put
+Finds Widen v s c lines put = With (IsMove Outwards v.0 c lines) put
 Finds Make v s c lines put = Makes s.signals s.seed c lines
 Finds Trial v s c lines put = IsTrial s.signals s.seed s.limit c lines
 Finds Sweep v s c lines put = With (IsSweep v.0 s.limit s.cycles c lines) put
@@ -90,6 +96,8 @@ IsOwnEnd Links c = IsVerdict c
 IsOwnEnd CheckLinks c = IsLinkCheckEnd c
 IsOwnEnd Hold c = IsTestEnd c
 IsOwnEnd Show c = IsDone c
+IsOwnEnd Narrow c = IsDone c
+IsOwnEnd Widen c = IsDone c
 IsOwnEnd Make c = IsDone c
 IsOwnEnd Trial c = IsVerdict c
 IsOwnEnd Sweep c = IsDone c

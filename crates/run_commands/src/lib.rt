@@ -25,6 +25,7 @@
 #![tactic(auto)]
 
 pub mod bands;
+mod bound;
 pub mod check;
 mod check_lines;
 pub mod check_links;
@@ -36,6 +37,7 @@ pub mod hold;
 mod lines;
 pub mod links;
 pub mod make;
+pub mod narrow;
 pub mod renew;
 mod request;
 pub mod round;

@@ -2,13 +2,14 @@
 
 ghost use Rattle.std.specs.Prelude.{◌≡◌, ◌≤◌, ◌++◌, None, Some, IfOk, OnOk, length, refl};
 ghost use Rattle.progression.specs.{Street.{count}, Good.{Good}};
-ghost use Rattle.certificate_checker.specs.{Accepted.{IsAccepted}, Claims.{ClaimHolds}};
 ghost use Rattle.diagram_print.specs.Measures.{band_line, weighted_line};
 ghost use Rattle.run_inputs.specs.{Puts.{bytes_of}, Status.{IsOwnAnswer}};
 ghost use Rattle.run_commands.specs.Round.{offset_line, offset_lines, plan_lines, unplanned_line, TellsRounded, RoundFinds, RoundFromFinds};
+ghost use Rattle.run_commands.specs.Bound.{IsBound, BoundHolds};
 ghost use Rattle.run_commands.specs.Ends.{IsRoundEnd, IsRoundFromEnd};
 ghost use Rattle.run_commands.specs.declared.table.Usage.TheVariants as usage;
 
+use crate::bound::check_bound;
 use crate::check::rejected;
 use crate::command::Command;
 use crate::hold::fails;
@@ -163,8 +164,8 @@ fn plan_good(
     certificate: &Certificate,
     timing: &Timing,
 ) -> Result<Found, Memory>
-    requires accepted { IsAccepted artery.now certificate.now }
-    requires claim { ClaimHolds artery.now certificate.now.claim certificate.now.timing }
+    requires accepted { IsBound artery.now certificate.now }
+    requires claim { BoundHolds artery.now certificate.now.claim }
     requires good { Good artery.now timing.now }
     ensures finds { IfOk result (λ a. RoundFromFinds artery.now certificate.now (Some timing.now) a.cause a.lines.items (bytes_of a)) }
     ensures ends { IfOk result (λ a. IsRoundFromEnd a.cause) }
@@ -182,7 +183,7 @@ fn plan_good(
 }
 
 /// Makes such a plan of another timing that is good on the artery; what it loses is counted from what the certificate claims, where that is
-/// accepted. Nothing is put either where the timing breaks a rule, or where there is none.
+/// accepted for the street or for the widened street. Nothing is put either where the timing breaks a rule, or where there is none.
 fn round_other(
     alloc: Global,
     artery: &Artery,
@@ -193,7 +194,7 @@ fn round_other(
     ensures ends { IfOk result (λ a. IsRoundFromEnd a.cause) }
     ensures answer { IfOk result (λ a. IsOwnAnswer a.cause (bytes_of a)) }
 {
-    if let Err(reject) = check(alloc, artery, certificate) {
+    if let Err(reject) = check_bound(alloc, artery, certificate) {
         return rejected(alloc, artery, reject);
     }
     let Some(timing) = &timed.timing else {

@@ -33,6 +33,8 @@ pub enum Usage {
     CheckLinks,
     Hold,
     Show,
+    Narrow,
+    Widen,
     Make,
     Trial,
     Sweep,
@@ -41,7 +43,7 @@ pub enum Usage {
 }
 
 /// In the order of the help.
-pub const USAGES: [Usage; 18] = [
+pub const USAGES: [Usage; 20] = [
     Usage::Solve,
     Usage::Check,
     Usage::Bands,
@@ -55,6 +57,8 @@ pub const USAGES: [Usage; 18] = [
     Usage::CheckLinks,
     Usage::Hold,
     Usage::Show,
+    Usage::Narrow,
+    Usage::Widen,
     Usage::Make,
     Usage::Trial,
     Usage::Sweep,
@@ -189,6 +193,24 @@ pub const SHOW: Parts = (
     "maxband show STREET                           write the canonical description\n",
 );
 
+pub const NARROW: Parts = (
+    "narrow",
+    &[Reader::Description],
+    true,
+    &[],
+    false,
+    "maxband narrow STREET NEW                     put the street with its limits of speed moved inwards to short numbers\n",
+);
+
+pub const WIDEN: Parts = (
+    "widen",
+    &[Reader::Description],
+    true,
+    &[],
+    false,
+    "maxband widen STREET NEW                      put the street with its limits of speed moved outwards to short numbers\n",
+);
+
 pub const MAKE: Parts = (
     "make",
     &[],
@@ -253,6 +275,8 @@ impl Usage {
             Usage::CheckLinks => CHECK_LINKS,
             Usage::Hold => HOLD,
             Usage::Show => SHOW,
+            Usage::Narrow => NARROW,
+            Usage::Widen => WIDEN,
             Usage::Make => MAKE,
             Usage::Trial => TRIAL,
             Usage::Sweep => SWEEP,

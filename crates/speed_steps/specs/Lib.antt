@@ -1,0 +1,4 @@
+pub mod Steps
+pub mod Sizes
+pub mod Moved
+pub mod Laws
