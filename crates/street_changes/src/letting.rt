@@ -1,15 +1,13 @@
 //! One limit, let out.
 
-ghost use Rattle.std.specs.Prelude.{◌≡◌, ◌+◌, ◌-◌, ◌≤◌, option_map, unsigned_abs, IfOk};
-ghost use Rattle.rational_theory.specs.Rational.{◌+ℚ◌, ◌-ℚ◌};
+ghost use Rattle.std.specs.Prelude.{◌≡◌, ◌+◌, ◌-◌, ◌*◌, ◌≤◌, ◌<◌, ◌^◌, ◌*ℤ◌, ◌-ℤ◌, option_map, unsigned_abs, pos, if◌then◌else◌};
+ghost use Rattle.rational_theory.specs.Rational.{whole, ◌+ℚ◌, ◌-ℚ◌};
 ghost use Rattle.artery_model.specs.{Bounds.{least_share, most_share, least_cycle, most_cycle}, Valid.{IsQuantity, IsPair, IsSpeeds, IsChange, IsLink}};
-ghost use Rattle.street_changes.specs.Changed.{one, hundredth_less, least_down, most_up, let_signal, let_link, let_street};
+ghost use Rattle.street_changes.specs.Changed.{one, hundredth, hundredth_less, least_down, most_up, let_signal, let_link, let_street};
 
-use crate::copying::{copied_head, copied_link};
 use crate::limits::{LinkLimit, SignalLimit, StreetLimit};
 use artery_model::{Head, Link, Pair, Signal};
-use narrow_fraction::{Frac, Memory};
-use std::alloc::Global;
+use narrow_fraction::Frac;
 
 #[tactic(auto, using(crate::proofs::Numbers::one_more_is))]
 fn one_more(value: Frac) -> Frac
@@ -29,17 +27,54 @@ fn one_less(value: Frac) -> Frac
     Frac::reduced(value.num() - value.den(), value.den() as u128)
 }
 
+/// The numerator of a hundredth less, over a hundred times the denominator.
+fn top_less(value: Frac) -> i128
+    requires num { unsigned_abs value.num ≤ 100000 }
+    requires den { value.den ≤ 1000 }
+    ensures value { result ≡ pos 100 *ℤ value.num -ℤ pos value.den }
+    ensures size { unsigned_abs result < 2 ^ 127 }
+{
+    100 * value.num() - value.den()
+}
+
+fn bottom_less(value: Frac) -> u128
+    requires { value.den ≤ 1000 }
+    ensures value { result ≡ 100 * value.den }
+    ensures above { 0 < result }
+    ensures size { result < 2 ^ 127 }
+{
+    100 * value.den() as u128
+}
+
+#[tactic(auto, using(crate::proofs::Numbers::less_hundredth_is))]
+fn less_hundredth(value: Frac) -> Frac
+    requires num { unsigned_abs value.num ≤ 100000 }
+    requires den { value.den ≤ 1000 }
+    ensures { result ≡ value -ℚ hundredth }
+{
+    Frac::reduced(top_less(value), bottom_less(value))
+}
+
 /// A hundredth less, and 0 of what isn't more than that.
-#[tactic(auto, using(crate::proofs::Numbers::less_hundredth_is, crate::proofs::Numbers::less_then, crate::proofs::Numbers::less_else))]
 fn hundredth_less(value: Frac) -> Frac
     requires num { unsigned_abs value.num ≤ 100000 }
     requires den { value.den ≤ 1000 }
     ensures { result ≡ hundredth_less value }
 {
-    if value <= Frac::reduced(1, 100) {
+    let small = value <= Frac::reduced(1, 100);
+    zero_or_less(small, value)
+}
+
+/// 0, or a hundredth less.
+fn zero_or_less(small: bool, value: Frac) -> Frac
+    requires num { unsigned_abs value.num ≤ 100000 }
+    requires den { value.den ≤ 1000 }
+    ensures { result ≡ if small then whole (pos 0) else value -ℚ hundredth }
+{
+    if small {
         Frac::whole(0)
     } else {
-        Frac::reduced(100 * value.num() - value.den(), 100 * value.den() as u128)
+        less_hundredth(value)
     }
 }
 
