@@ -3,4 +3,4 @@ mod Matched
 mod Pinned
 mod Plain
 mod Quantities
-mod Saying
+pub mod Saying

@@ -22,18 +22,13 @@ use Rattle.branch_tree.specs.Kinds.{ProvesOf}
 use Rattle.branch_tree.specs.WholeBands.{whole_bands}
 use Rattle.cycle_sweep.specs.declared.row.SweepRow.TheVariants.{Outside, Searched}
 use Rattle.cycle_sweep.specs.Rows.{at_cycle}
-use Rattle.cycle_sweep.specs.Table.{fields, number_text, verdict_text, cause_text, bound_of, outside_fields, found_fields}
-use Rattle.cycle_sweep.specs.Says.{IsWhy, SaysFound, RowsSay}
-use Rattle.quantity_text.specs.Exact.{exact_spelling}
+use Rattle.cycle_sweep.specs.Table.{verdict_text, cause_text, bound_of, cycle_fields, outside_fields, found_fields}
+use Rattle.cycle_sweep.specs.Says.{IsWhy, Telling, SaysFound, RowsSay}
 
+-- ---- what was found of any street, told in any form of record
 -- the certificate of what was found
 abbrev certificate_of : Street → Option TimingRecord → ℚ → Verdict SitePart → List TreeNode → Warrant
 certificate_of a timing bound verdict nodes = record { claim = claim_by verdict bound (value_of a timing); timing = timing; nodes = map node_of nodes }
-
--- the fields after the cycle
-abbrev texts_of : Street → ℚ → Option TimingRecord → ℚ → Verdict SitePart → List (List ℕ)
-texts_of a cycle timing bound verdict =
-    fields (exact_spelling cycle) (verdict_text verdict) (number_text (value_of a timing)) (number_text (bound_of verdict bound (value_of a timing))) (cause_text verdict)
 
 -- a stop by work comes at the limit
 why_of : (a : Street) (limit : Option ℕ) (nodes : List TreeNode) (best : Option (Incumbent TimingRecord)) (bound : ℚ) (spent : ℕ) (stop : Stop SitePart)
@@ -41,30 +36,30 @@ why_of : (a : Street) (limit : Option ℕ) (nodes : List TreeNode) (best : Optio
 why_of a limit nodes best bound spent (Work units) h = (h.cause.0, h.cause.1)
 why_of a limit nodes best bound spent (Wide site) h = tt
 
-says_found : (a : Street) (limit : Option ℕ) (cycle : ℚ) (nodes : List TreeNode) (timing : Option TimingRecord) (bound : ℚ) (spent : ℕ) (verdict : Verdict SitePart)
-    → IsAnswer (rules_of (at_cycle a cycle)) limit nodes (incumbent_of (at_cycle a cycle) timing) bound spent verdict
-    → ProvesOf (whole_bands (at_cycle a cycle)) timing bound verdict → IsAccepted (at_cycle a cycle) (certificate_of (at_cycle a cycle) timing bound verdict nodes)
-    → SaysFound a limit cycle spent verdict (texts_of a cycle timing bound verdict)
-says_found a limit cycle nodes None bound spent Best s h k = absurd h
-says_found a limit cycle nodes (Some plan) bound spent Best s h k = record {
+pub says_found : (a : Street) (limit : Option ℕ) (tell : Telling) (nodes : List TreeNode) (timing : Option TimingRecord) (bound : ℚ) (spent : ℕ) (verdict : Verdict SitePart)
+    → IsAnswer (rules_of a) limit nodes (incumbent_of a timing) bound spent verdict
+    → ProvesOf (whole_bands a) timing bound verdict → IsAccepted a (certificate_of a timing bound verdict nodes)
+    → SaysFound a limit tell spent verdict (tell (verdict_text verdict) (value_of a timing) (bound_of verdict bound (value_of a timing)) (cause_text verdict))
+says_found a limit tell nodes None bound spent Best s h k = absurd h
+says_found a limit tell nodes (Some plan) bound spent Best s h k = record {
   plan = plan;
   best = h.0;
-  certified = record { certificate = certificate_of (at_cycle a cycle) (Some plan) bound Best nodes; accepted = k; claim_is = refl; timing_is = refl };
+  certified = record { certificate = certificate_of a (Some plan) bound Best nodes; accepted = k; claim_is = refl; timing_is = refl };
   texts_are = refl;
 }
-says_found a limit cycle nodes None bound spent NoTiming s h k = record {
+says_found a limit tell nodes None bound spent NoTiming s h k = record {
   none = h.1;
-  certified = record { certificate = certificate_of (at_cycle a cycle) None bound NoTiming nodes; accepted = k; claim_is = refl; timing_is = refl };
+  certified = record { certificate = certificate_of a None bound NoTiming nodes; accepted = k; claim_is = refl; timing_is = refl };
   texts_are = refl;
 }
-says_found a limit cycle nodes (Some plan) bound spent NoTiming s h k = absurd (none-some plan (sym h.0))
-says_found a limit cycle nodes timing bound spent (Stopped stop) s h k = record {
+says_found a limit tell nodes (Some plan) bound spent NoTiming s h k = absurd (none-some plan (sym h.0))
+says_found a limit tell nodes timing bound spent (Stopped stop) s h k = record {
   bound = bound;
   timing = timing;
   bounded = h.0;
   good = h.1;
-  certified = record { certificate = certificate_of (at_cycle a cycle) timing bound (Stopped stop) nodes; accepted = k; claim_is = refl; timing_is = refl };
-  why = why_of (at_cycle a cycle) limit nodes (incumbent_of (at_cycle a cycle) timing) bound spent stop s;
+  certified = record { certificate = certificate_of a timing bound (Stopped stop) nodes; accepted = k; claim_is = refl; timing_is = refl };
+  why = why_of a limit nodes (incumbent_of a timing) bound spent stop s;
   texts_are = refl;
 }
 
@@ -72,6 +67,6 @@ pub rows_say : RowsSay
 rows_say a limit cycle (Outside shown) r = (r.1, ap outside_fields r.0)
 rows_say a limit cycle (Searched shown found) r = (
   r.1,
-  subst (λ c. SaysFound a limit cycle found.spent found.verdict (found_fields a c found)) (sym r.0)
-      (says_found a limit cycle found.nodes.items found.timing found.bound found.spent found.verdict r.2.search r.2.proves r.2.accepted),
+  subst (λ c. SaysFound (at_cycle a cycle) limit (cycle_fields cycle) found.spent found.verdict (found_fields a c found)) (sym r.0)
+      (says_found (at_cycle a cycle) limit (cycle_fields cycle) found.nodes.items found.timing found.bound found.spent found.verdict r.2.search r.2.proves r.2.accepted),
 )

@@ -20,7 +20,7 @@ use Rattle.branch_tree.specs.Certified.{value_of}
 use Rattle.cycle_sweep.specs.declared.row.SweepRow.{SweepRow}
 use Rattle.cycle_sweep.specs.declared.row.SweepRow.TheVariants.{Outside, Searched}
 use Rattle.cycle_sweep.specs.Rows.{at_cycle, IsAllowed, IsRow}
-use Rattle.cycle_sweep.specs.Table.{fields, dash, number_text, stop_text, row_fields}
+use Rattle.cycle_sweep.specs.Table.{fields, dash, stop_text, cycle_fields, row_fields}
 
 -- a certificate with this claim and this timing is accepted
 pub record HasCertificate (a : Street) (claimed : Claim) (timing : Option TimingRecord) : Type 0 where
@@ -29,44 +29,48 @@ pub record HasCertificate (a : Street) (claimed : Claim) (timing : Option Timing
   pub claim_is : certificate.claim ≡ claimed
   pub timing_is : certificate.timing ≡ timing
 
--- `best`: this timing is best at the cycle, and its weighted band is in both columns
-pub record SaysBest (a : Street) (cycle : ℚ) (texts : List (List ℕ)) : Type 0 where
-  pub plan : TimingRecord
-  pub best : Best (at_cycle a cycle) plan
-  pub certified : HasCertificate (at_cycle a cycle) (claim.Best (weighted_band (at_cycle a cycle) plan)) (Some plan)
-  pub texts_are : texts
-      ≡ fields (exact_spelling cycle) (codes "best") (exact_spelling (weighted_band (at_cycle a cycle) plan)) (exact_spelling (weighted_band (at_cycle a cycle) plan)) dash
+-- the record of a verdict, a weighted band, what none exceeds, and a cause
+abbrev pub Telling : Type 0
+Telling = List ℕ → Option ℚ → Option ℚ → List ℕ → List (List ℕ)
 
--- `none`: no timing is good at the cycle
-pub record SaysNone (a : Street) (cycle : ℚ) (texts : List (List ℕ)) : Type 0 where
-  pub none : best.NoTiming (at_cycle a cycle)
-  pub certified : HasCertificate (at_cycle a cycle) claim.NoTiming None
-  pub texts_are : texts ≡ fields (exact_spelling cycle) (codes "none") dash dash dash
+-- `best`: this timing is best, and its weighted band is told twice
+pub record SaysBest (a : Street) (tell : Telling) (texts : List (List ℕ)) : Type 0 where
+  pub plan : TimingRecord
+  pub best : Best a plan
+  pub certified : HasCertificate a (claim.Best (weighted_band a plan)) (Some plan)
+  pub texts_are : texts ≡ tell (codes "best") (Some (weighted_band a plan)) (Some (weighted_band a plan)) dash
+
+-- `none`: no timing is good
+pub record SaysNone (a : Street) (tell : Telling) (texts : List (List ℕ)) : Type 0 where
+  pub none : best.NoTiming a
+  pub certified : HasCertificate a claim.NoTiming None
+  pub texts_are : texts ≡ tell (codes "none") None None dash
 
 -- all units of work were spent, where that is the cause
 abbrev pub IsWhy : Option ℕ → ℕ → Stop SitePart → Type 0
 IsWhy limit spent (Work units) = (units ≡ spent) × (limit ≡ Some spent)
 IsWhy limit spent (Wide site) = Unit {0}
 
--- `open`: no good timing at the cycle has a weighted band above the bound, and a timing that was found is good
-pub record SaysOpen (a : Street) (limit : Option ℕ) (cycle : ℚ) (spent : ℕ) (stop : Stop SitePart) (texts : List (List ℕ)) : Type 0 where
+-- `open`: no good timing has a weighted band above the bound, and a timing that was found is good
+pub record SaysOpen (a : Street) (limit : Option ℕ) (tell : Telling) (spent : ℕ) (stop : Stop SitePart) (texts : List (List ℕ)) : Type 0 where
   pub bound : ℚ
   pub timing : Option TimingRecord
-  pub bounded : Bounded (at_cycle a cycle) bound
-  pub good : IfSome timing (λ plan. Good (at_cycle a cycle) plan × (weighted_band (at_cycle a cycle) plan ≤ℚ bound))
-  pub certified : HasCertificate (at_cycle a cycle) (claim.Stopped bound (value_of (at_cycle a cycle) timing)) timing
+  pub bounded : Bounded a bound
+  pub good : IfSome timing (λ plan. Good a plan × (weighted_band a plan ≤ℚ bound))
+  pub certified : HasCertificate a (claim.Stopped bound (value_of a timing)) timing
   pub why : IsWhy limit spent stop
-  pub texts_are : texts ≡ fields (exact_spelling cycle) (codes "open") (number_text (value_of (at_cycle a cycle) timing)) (exact_spelling bound) (stop_text stop)
+  pub texts_are : texts ≡ tell (codes "open") (value_of a timing) (Some bound) (stop_text stop)
 
-abbrev pub SaysFound : Street → Option ℕ → ℚ → ℕ → Verdict SitePart → List (List ℕ) → Type 0
-SaysFound a limit cycle spent verdict.Best texts = SaysBest a cycle texts
-SaysFound a limit cycle spent verdict.NoTiming texts = SaysNone a cycle texts
-SaysFound a limit cycle spent (verdict.Stopped stop) texts = SaysOpen a limit cycle spent stop texts
+-- what the record of what was found means of the street that was searched
+abbrev pub SaysFound : Street → Option ℕ → Telling → ℕ → Verdict SitePart → List (List ℕ) → Type 0
+SaysFound a limit tell spent verdict.Best texts = SaysBest a tell texts
+SaysFound a limit tell spent verdict.NoTiming texts = SaysNone a tell texts
+SaysFound a limit tell spent (verdict.Stopped stop) texts = SaysOpen a limit tell spent stop texts
 
 -- `outside`: the street doesn't allow the cycle
 abbrev pub SaysRow : Street → Option ℕ → ℚ → SweepRow → List (List ℕ) → Type 0
 SaysRow a limit cycle (Outside shown) texts = (¬ IsAllowed a cycle) × (texts ≡ fields (exact_spelling cycle) (codes "outside") dash dash dash)
-SaysRow a limit cycle (Searched shown found) texts = IsAllowed a cycle × SaysFound a limit cycle found.spent found.verdict texts
+SaysRow a limit cycle (Searched shown found) texts = IsAllowed a cycle × SaysFound (at_cycle a cycle) limit (cycle_fields cycle) found.spent found.verdict texts
 
 -- what the record of a cycle means
 abbrev pub RowsSay : Type 0

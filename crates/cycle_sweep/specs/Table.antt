@@ -53,11 +53,14 @@ header_fields = fields (codes "cycle") (codes "verdict") (codes "weighted") (cod
 abbrev pub outside_fields : ℚ → List (List ℕ)
 outside_fields cycle = fields (exact_spelling cycle) (codes "outside") dash dash dash
 
+-- of what was found at a cycle: a verdict, a weighted band, what none exceeds, and a cause
+abbrev pub cycle_fields : ℚ → List ℕ → Option ℚ → Option ℚ → List ℕ → List (List ℕ)
+cycle_fields cycle verdict weighted bound cause = fields (exact_spelling cycle) verdict (number_text weighted) (number_text bound) cause
+
 -- with the weighted band of the timing that was found, if there is one
 abbrev pub found_fields : Street → ℚ → Found → List (List ℕ)
 found_fields a cycle found =
-    fields (exact_spelling cycle) (verdict_text found.verdict) (number_text (value_of a found.timing)) (number_text (bound_of found.verdict found.bound (value_of a found.timing)))
-    (cause_text found.verdict)
+    cycle_fields cycle (verdict_text found.verdict) (value_of a found.timing) (bound_of found.verdict found.bound (value_of a found.timing)) (cause_text found.verdict)
 
 abbrev pub row_fields : Street → SweepRow → List (List ℕ)
 row_fields a (Outside cycle) = outside_fields cycle

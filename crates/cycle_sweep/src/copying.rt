@@ -4,64 +4,21 @@ ghost use Rattle.std.specs.Prelude.{◌≡◌, ◌++◌, [], ◌∷◌, IfOk, On
 ghost use Rattle.artery_model.specs.{Bounds.{least_cycle, most_cycle}, Valid.{IsQuantity}};
 ghost use Rattle.cycle_sweep.specs.Rows.{head_at, at_cycle};
 
-use artery_model::{Artery, Flaw, Head, Link, Pair, Signal, Text};
+use artery_model::{Artery, Flaw, Head, Link, Pair, Signal};
 use narrow_fraction::{Frac, Memory};
 use std::alloc::Global;
-
-fn copied_name(alloc: Global, name: &Option<Text>) -> Result<Option<Text>, Memory>
-    ensures { IfOk result (λ copy. copy ≡ name.now) }
-{
-    match name {
-        Some(name) => Ok(Some(Text::new(alloc, name.as_str())?)),
-        None => Ok(None),
-    }
-}
+use street_changes::{copied_head, copied_link, copied_signal};
 
 /// The same head with this cycle alone.
 fn head_at(alloc: Global, head: &Head, cycle: Frac) -> Result<Head, Memory>
     ensures { IfOk result (λ copy. copy ≡ head_at head.now cycle) }
 {
-    Ok(Head {
-        name: copied_name(alloc, &head.name)?,
-        units: head.units,
-        version: head.version,
-        parts: head.parts,
-        cycle: Pair {
-            least: cycle,
-            most: cycle,
-        },
-        ratio: head.ratio,
-        least_out: head.least_out,
-        least_in: head.least_in,
-        equal: head.equal,
-    })
-}
-
-fn copied_signal(alloc: Global, signal: &Signal) -> Result<Signal, Memory>
-    ensures { IfOk result (λ copy. copy ≡ signal.now) }
-{
-    Ok(Signal {
-        name: Text::new(alloc, signal.name.as_str())?,
-        red: signal.red,
-        left_out: signal.left_out,
-        left_in: signal.left_in,
-        patterns: signal.patterns,
-        clear_out: signal.clear_out,
-        clear_in: signal.clear_in,
-    })
-}
-
-fn copied_link(link: &Link) -> Link
-    ensures { result ≡ link.now }
-{
-    Link {
-        distance_out: link.distance_out,
-        distance_in: link.distance_in,
-        speed_out: link.speed_out,
-        speed_in: link.speed_in,
-        change_out: link.change_out,
-        change_in: link.change_in,
-    }
+    let mut copy = copied_head(alloc, head)?;
+    copy.cycle = Pair {
+        least: cycle,
+        most: cycle,
+    };
+    Ok(copy)
 }
 
 fn push<T: Drop>(items: &mut Vec<T>, item: T) -> Result<(), Memory>

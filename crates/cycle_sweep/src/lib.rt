@@ -11,7 +11,8 @@
 //! quote; it is stated by itself, and proved that `csv` writes just that. What `law_rows_say` tells: a `best` record has, twice,
 //! the weighted band of a timing that is best at its cycle; after `none` no timing is good there; after `open` no good timing is
 //! above the bound, and the weighted band, if there is one, is that of a good timing; an accepted certificate claims as much each
-//! time; and the cause is `work` only where the units that were spent are the limit.
+//! time; and the cause is `work` only where the units that were spent are the limit. What a verdict says of a street is told for any
+//! street and any form of record (`SaysFound`). The words of a record serve other tables too.
 #![tactic(auto)]
 
 mod copying;
@@ -27,3 +28,4 @@ pub use laws::law_rows_say;
 pub use row::SweepRow;
 pub use sweep::sweep_rows;
 pub use table::sweep_table;
+pub use words::{bound_of, cause_word, number_text, verdict_word};

@@ -8,8 +8,8 @@ use narrow_fraction::{Frac, Memory};
 use quantity_text::{push_exact, push_text};
 use std::alloc::Global;
 
-/// The verdict's word.
-pub(crate) fn verdict_word(verdict: &Verdict) -> &'static str
+/// The verdict's word: `best`, `none` or `open`.
+pub fn verdict_word(verdict: &Verdict) -> &'static str
     ensures { result.now ≡ verdict_text verdict.now }
 {
     match verdict {
@@ -28,8 +28,8 @@ fn stop_word(stop: &Stop) -> &'static str
     }
 }
 
-/// Why the search stopped, if it did.
-pub(crate) fn cause_word(verdict: &Verdict) -> &'static str
+/// Why the search stopped: `work` or `wide`, and `-` where it didn't.
+pub fn cause_word(verdict: &Verdict) -> &'static str
     ensures { result.now ≡ cause_text verdict.now }
 {
     match verdict {
@@ -40,7 +40,7 @@ pub(crate) fn cause_word(verdict: &Verdict) -> &'static str
 }
 
 /// What no weighted band exceeds: the value of a best timing, or the bound of a search that stopped.
-pub(crate) fn bound_of(verdict: &Verdict, bound: Frac, value: Option<Frac>) -> Option<Frac>
+pub fn bound_of(verdict: &Verdict, bound: Frac, value: Option<Frac>) -> Option<Frac>
     ensures { result ≡ bound_of verdict.now bound value }
 {
     match verdict {
@@ -60,8 +60,8 @@ fn push_value(out: &mut Vec<u8>, number: Option<Frac>) -> Result<(), Memory>
     }
 }
 
-/// The exact text of a number, and `-` where there is none.
-pub(crate) fn number_text(alloc: Global, number: Option<Frac>) -> Result<Vec<u8>, Memory>
+/// The exact text of a number, and `-` where there is none. The error is want of memory.
+pub fn number_text(alloc: Global, number: Option<Frac>) -> Result<Vec<u8>, Memory>
     ensures { IfOk result (λ text. text.items ≡ number_text number) }
 {
     let mut text = Vec::new(alloc);

@@ -1,0 +1,3 @@
+mod Matched
+mod Saying
+mod Ranked

@@ -1,0 +1,5 @@
+pub mod Rows
+pub mod Gains
+pub mod Table
+pub mod Report
+pub mod Says

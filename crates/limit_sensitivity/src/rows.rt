@@ -1,0 +1,91 @@
+//! A search for each change.
+
+ghost use Rattle.std.specs.Prelude.{◌≡◌, ◌++◌, [], ◌∷◌, IfOk, OnOk};
+ghost use Rattle.work_meter.specs.Work.{IsBelow};
+ghost use Rattle.street_changes.specs.Changed.{changed, IsChanged};
+ghost use Rattle.limit_sensitivity.specs.Rows.{IsOutcome, IsEnd, IsRow, AreRows};
+
+use crate::row::{Outcome, SensitivityRow};
+use artery_model::Artery;
+use branch_tree::{Found, search_and_check};
+use narrow_fraction::Memory;
+use std::alloc::Global;
+use street_changes::{Change, changed_artery, changes};
+
+/// What is kept of what a search found.
+fn outcome_of(found: Found) -> Outcome
+    ensures verdict { result.verdict ≡ found.verdict }
+    ensures timing { result.timing ≡ found.timing }
+    ensures bound { result.bound ≡ found.bound }
+{
+    Outcome {
+        verdict: found.verdict,
+        timing: found.timing,
+        bound: found.bound,
+    }
+}
+
+/// What a search of the street finds.
+fn searched(alloc: Global, street: &Artery, limit: Option<u64>) -> Result<Outcome, Memory>
+    requires { IsBelow 0 limit }
+    ensures { IfOk result (λ o. IsOutcome street.now limit o) }
+{
+    let searched = search_and_check(alloc, street, limit)?;
+    Ok(outcome_of(searched.found))
+}
+
+fn outcome_at(
+    alloc: Global,
+    artery: &Artery,
+    limit: Option<u64>,
+    change: Change,
+) -> Result<Option<Outcome>, Memory>
+    requires { IsBelow 0 limit }
+    ensures { IfOk result (λ o. IsEnd (changed artery.now change) limit o) }
+{
+    match changed_artery(alloc, artery, change)? {
+        Some(street) => Ok(Some(searched(alloc, &street, limit)?)),
+        None => Ok(None),
+    }
+}
+
+fn row_at(
+    alloc: Global,
+    artery: &Artery,
+    limit: Option<u64>,
+    change: Change,
+) -> Result<SensitivityRow, Memory>
+    requires { IsBelow 0 limit }
+    ensures { IfOk result (λ row. IsRow artery.now limit change row) }
+{
+    let outcome = outcome_at(alloc, artery, limit, change)?;
+    Ok(SensitivityRow { change, outcome })
+}
+
+fn push(rows: &mut Vec<SensitivityRow>, row: SensitivityRow) -> Result<(), Memory>
+    ensures { OnOk result (rows.new.items ≡ rows.old.items ++ row ∷ []) }
+{
+    rows.push(row)?;
+    Ok(())
+}
+
+/// A row for each of the street's changes, the first for none: what a search of the street with the change finds, whose certificate was
+/// checked, or nothing where a description may not have the street with it.
+///
+/// Each search has the whole limit of work for itself, which is at least 1 where there is one. The error is want of memory.
+pub fn sensitivity_rows(
+    alloc: Global,
+    artery: &Artery,
+    limit: Option<u64>,
+) -> Result<Vec<SensitivityRow>, Memory>
+    requires { IsBelow 0 limit }
+    ensures { IfOk result (λ rows. AreRows artery.now limit rows.items) }
+{
+    let list = changes(alloc, artery)?;
+    let mut rows = Vec::new(alloc);
+    for change in list.as_slice() {
+        let row = row_at(alloc, artery, limit, *change)?;
+        push(&mut rows, row)?;
+    }
+    Ok(rows)
+}
