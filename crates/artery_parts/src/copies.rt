@@ -33,7 +33,8 @@ pub fn copied_head(alloc: Global, head: &Head) -> Result<Head, Memory>
     })
 }
 
-fn copied_signal(alloc: Global, signal: &Signal) -> Result<Signal, Memory>
+/// The same signal.
+pub fn copied_signal(alloc: Global, signal: &Signal) -> Result<Signal, Memory>
     ensures { IfOk result (λ copy. copy ≡ signal.now) }
 {
     Ok(Signal {
@@ -47,7 +48,8 @@ fn copied_signal(alloc: Global, signal: &Signal) -> Result<Signal, Memory>
     })
 }
 
-fn copied_link(link: &Link) -> Link
+/// The same link.
+pub fn copied_link(link: &Link) -> Link
     ensures { result ≡ link.now }
 {
     Link {

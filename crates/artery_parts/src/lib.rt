@@ -7,5 +7,7 @@
 mod copies;
 mod whole;
 
-pub use copies::{copied_head, copied_links, copied_name, copied_signals, push};
+pub use copies::{
+    copied_head, copied_link, copied_links, copied_name, copied_signal, copied_signals, push,
+};
 pub use whole::artery_of;

@@ -5,10 +5,10 @@ ghost use Rattle.progression.specs.Street.{no_signal, no_link};
 ghost use Rattle.artery_model.specs.{Bounds.{least_share, most_share, least_cycle, most_cycle}, Valid.{IsQuantity, IsPair, IsLink, IsValid}};
 ghost use Rattle.street_changes.specs.Changed.{changed_head, changed_signal, changed_link, each_by, changed, IsChanged};
 
-use crate::copying::{copied_head, copied_link, copied_signal};
 use crate::letting::{let_link, let_signal, let_street};
 use crate::limits::Change;
 use artery_model::{Artery, Flaw, Head, Link, Signal};
+use artery_parts::{copied_head, copied_link, copied_signal, push};
 use narrow_fraction::Memory;
 use std::alloc::Global;
 
@@ -55,13 +55,6 @@ fn changed_link(link: &Link, number: u32, change: Change) -> Link
         }
     }
     copy
-}
-
-fn push<T: Drop>(items: &mut Vec<T>, item: T) -> Result<(), Memory>
-    ensures { OnOk result (items.new.items ≡ items.old.items ++ item ∷ []) }
-{
-    items.push(item)?;
-    Ok(())
 }
 
 fn changed_signal_at(
