@@ -5,8 +5,10 @@ use Rattle.std.specs.Str.{bytes_eq}
 use Rattle.std.proofs.lemmas.Slice.Eq.{bytes_eq-Decides}
 use Rattle.outer_edge.specs.Taken.{Appends}
 use Rattle.run_inputs.specs.Command as words
-use Rattle.run_inputs.specs.Command.{Request, Solve, Links, Draw, Help, Make, Trial, Sweep, asked, no_more, one_more, two_more, three_more, any_more}
-use Rattle.run_inputs.specs.Command.{make_of, trial_of, sweep_of, round_from_of, titled, draw_of, request_of}
+-- WAS Request, Solve, Links, Draw, Help, Make, Trial, Sweep, asked, no_more, one_more, two_more, three_more, any_more
+use Rattle.run_laws.specs.Asked as ask
+-- WAS make_of, trial_of, sweep_of, round_from_of, titled, draw_of, request_of
+use Rattle.run_laws.specs.Asked as ask
 use Rattle.artery_model.specs.Limits.{is_name}
 use Rattle.run_inputs.specs.Cycles.{are_cycles}
 use Rattle.run_inputs.specs.Numbers.{signals_of, seed_of, limit_of}
@@ -169,7 +171,7 @@ words_named word (first ∷ second ∷ third ∷ fourth ∷ more) =
 -- ---- what is written
 pub help_says : HelpSays
 help_says before now request c h e =
-    let f = found_done before now (Some Help) c e h in
+    let f = found_done before now ask.help c e h in
     let u : Usage = usage_of request in
     let l = around usage_line usages u (none_missing u) in
     let whole = f.answer.finds.1 ∙ ap (λ t. t ++ statuses_line) l.2 ∙ append_assoc l.0 (usage_line u ++ l.1) statuses_line ∙ ap (λ t. l.0 ++ t) (append_assoc (usage_line u) l.1 statuses_line) in

@@ -1,4 +1,1 @@
-pub mod Laws
-pub mod PlanLaws
-pub mod StopLaws
-pub mod EndLaws
+pub mod Asked
