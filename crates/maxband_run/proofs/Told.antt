@@ -70,7 +70,8 @@ wanting q counts = record { told = tt; memory = counts }
 
 -- what is found is told
 pub tells : {F : Type 0} {files : Ghosts F} {before now : F} (r : Request) (u : Usage) (rs : List Reader) (e : rs ≡ readers u) (v : Values rs) (a : Found)
-    → WereRead files before now rs r.reads v → FindsAs u r.settings a.cause a.lines.items (bytes_of a) rs v → IsOwnEnd u a.cause → IsOwnAnswer a.cause (bytes_of a) → IsAnswered files before now (ask u r) (Ok a)
+    → WereRead files before now rs r.reads v → FindsAs u r.settings a.cause a.lines.items (bytes_of a) rs v → IsOwnEnd u a.cause → IsOwnAnswer a.cause (bytes_of a)
+    → IsAnswered files before now (ask u r) (Ok a)
 tells {files = files} {before = before} r u rs e v a read h ends answer =
     let k = by_values (files.holds before) r.reads r.settings u rs e v a.cause a.lines.items (bytes_of a) h read.read in
     record {

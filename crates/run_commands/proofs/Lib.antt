@@ -6,3 +6,4 @@ pub mod Tried
 pub mod Typing
 pub mod Room
 pub mod Limits
+pub mod Ending

@@ -15,9 +15,9 @@ pub record Row : Type 0 where
   pub help : List ℕ
 
 abbrev Text : Type 0
-Text = record {now : List ℕ}
+Text = record { now : List ℕ }
 
-abbrev pub row_of : Text × record {now : List Reader} × Bool × record {now : List Setting} × Bool × Text → Row
+abbrev pub row_of : Text × record { now : List Reader } × Bool × record { now : List Setting } × Bool × Text → Row
 row_of p = record { word = p.0.now; reads = p.1.now; puts = p.2; settings = p.3.now; chooses = p.4; help = p.5.now }
 
 abbrev pub row_view : code.Row → Row

@@ -19,11 +19,7 @@ pub trait Command {
     ghost usage: { Usage };
 
     /// What it finds of these values.
-    fn find(
-        alloc: Global,
-        read: &Self::Reads,
-        settings: &Settings<'_>,
-    ) -> Result<Found, Memory>
+    fn find(alloc: Global, read: &Self::Reads, settings: &Settings<'_>) -> Result<Found, Memory>
         requires { InLimits (settings_view settings.now) }
         ensures finds { IfOk result (λ a. FindsAs usage (settings_view settings.now) a.cause a.lines.items (bytes_of a) Self.Reads.readers (Self.Reads.values read.now)) }
         ensures ends { IfOk result (λ a. IsOwnEnd usage a.cause) }

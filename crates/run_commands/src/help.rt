@@ -85,11 +85,7 @@ impl Command for Help {
 
     ghost usage = { usage.Help };
 
-    fn find(
-        alloc: Global,
-        read: &(),
-        _settings: &Settings<'_>,
-    ) -> Result<Found, Memory> {
+    fn find(alloc: Global, read: &(), _settings: &Settings<'_>) -> Result<Found, Memory> {
         let () = read;
         tell_usages(alloc)
     }
@@ -105,11 +101,7 @@ impl Command for Version {
 
     ghost usage = { usage.Version };
 
-    fn find(
-        alloc: Global,
-        read: &(),
-        _settings: &Settings<'_>,
-    ) -> Result<Found, Memory> {
+    fn find(alloc: Global, read: &(), _settings: &Settings<'_>) -> Result<Found, Memory> {
         let () = read;
         tell_version(alloc)
     }

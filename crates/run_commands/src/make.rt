@@ -35,11 +35,7 @@ impl Command for Make {
 
     ghost usage = { usage.Make };
 
-    fn find(
-        alloc: Global,
-        read: &(),
-        settings: &Settings<'_>,
-    ) -> Result<Found, Memory> {
+    fn find(alloc: Global, read: &(), settings: &Settings<'_>) -> Result<Found, Memory> {
         let () = read;
         make_description(alloc, settings.signals, settings.seed)
     }

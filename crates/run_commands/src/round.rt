@@ -137,11 +137,7 @@ fn tell_plan(alloc: Global, artery: &Artery, plan: &Plan) -> Result<Found, Memor
 
 /// Makes a plan in whole seconds of the certificate's timing where it is accepted, with what it loses at most against every timing. Its
 /// text is put; nothing is where the certificate is rejected, or where no plan is made.
-fn round_timing(
-    alloc: Global,
-    artery: &Artery,
-    certificate: &Certificate,
-) -> Result<Found, Memory>
+fn round_timing(alloc: Global, artery: &Artery, certificate: &Certificate) -> Result<Found, Memory>
     ensures finds { IfOk result (λ a. RoundFinds artery.now certificate.now a.cause a.lines.items (bytes_of a)) }
     ensures ends { IfOk result (λ a. IsRoundEnd a.cause) }
     ensures answer { IfOk result (λ a. IsOwnAnswer a.cause (bytes_of a)) }

@@ -1,7 +1,6 @@
 //! The search of an artery, with the cause and the certificate's text of what it finds.
 
-ghost use Rattle.std.specs.Prelude.{◌≡◌, ℕ, List, Option, IfOk, IfSome};
-ghost use Rattle.run_inputs.specs.Status.{IsOwnAnswer};
+ghost use Rattle.std.specs.Prelude.{◌≡◌, IfOk, IfSome};
 ghost use Rattle.progression.specs.Good.{Good};
 ghost use Rattle.work_meter.specs.Work.{IsBelow};
 ghost use Rattle.branch_tree.specs.{Certified.{warrant_of}, Searched.{IsSearched}};
@@ -26,7 +25,6 @@ pub struct Told {
 pub fn cause_of(verdict: Verdict) -> Cause
     ensures value { result ≡ cause_of verdict }
     ensures verdict { IsVerdict result }
-    ensures answer { (put : Option (List ℕ)) → IsOwnAnswer result put }
 {
     match verdict {
         Verdict::Best => Cause::Done,

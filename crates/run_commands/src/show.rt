@@ -32,11 +32,7 @@ impl Command for Show {
 
     ghost usage = { usage.Show };
 
-    fn find(
-        alloc: Global,
-        read: &(Artery, ()),
-        _settings: &Settings<'_>,
-    ) -> Result<Found, Memory> {
+    fn find(alloc: Global, read: &(Artery, ()), _settings: &Settings<'_>) -> Result<Found, Memory> {
         let (artery, ()) = read;
         show_artery(alloc, artery)
     }

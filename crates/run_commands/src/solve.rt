@@ -18,6 +18,7 @@ use std::alloc::Global;
 
 /// Searches for a best timing of the artery, within the limit where there is one. The certificate of what is found is checked, and its
 /// text is put.
+#[tactic(auto, using(crate::proofs::Ending::verdict_answer))]
 fn solve_artery(alloc: Global, artery: &Artery, limit: Option<u64>) -> Result<Found, Memory>
     requires { IsBelow 0 limit }
     ensures finds { IfOk result (λ a. With (IsSolution artery.now limit a.cause a.lines.items) (bytes_of a)) }
@@ -42,11 +43,7 @@ impl Command for Solve {
 
     ghost usage = { usage.Solve };
 
-    fn find(
-        alloc: Global,
-        read: &(Artery, ()),
-        settings: &Settings<'_>,
-    ) -> Result<Found, Memory> {
+    fn find(alloc: Global, read: &(Artery, ()), settings: &Settings<'_>) -> Result<Found, Memory> {
         let (artery, ()) = read;
         solve_artery(alloc, artery, settings.limit)
     }

@@ -56,11 +56,7 @@ impl Command for Sweep {
 
     ghost usage = { usage.Sweep };
 
-    fn find(
-        alloc: Global,
-        read: &(Artery, ()),
-        settings: &Settings<'_>,
-    ) -> Result<Found, Memory> {
+    fn find(alloc: Global, read: &(Artery, ()), settings: &Settings<'_>) -> Result<Found, Memory> {
         let (artery, ()) = read;
         sweep_cycles(alloc, artery, settings.limit, settings.cycles)
     }

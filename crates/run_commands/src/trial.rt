@@ -75,12 +75,8 @@ fn trial_lines(
 
 /// Makes the artery with so many signals, 2 to 16, from the seed, searches for a best timing of it within the limit of the units of
 /// work where there is one, and checks the certificate.
-fn search_made(
-    alloc: Global,
-    signals: u32,
-    seed: u64,
-    limit: Option<u64>,
-) -> Result<Found, Memory>
+#[tactic(auto, using(crate::proofs::Ending::verdict_answer))]
+fn search_made(alloc: Global, signals: u32, seed: u64, limit: Option<u64>) -> Result<Found, Memory>
     requires least { least_signals ≤ signals }
     requires most { signals ≤ most_first_signals }
     requires limit { IsBelow 0 limit }
@@ -102,11 +98,7 @@ impl Command for Trial {
 
     ghost usage = { usage.Trial };
 
-    fn find(
-        alloc: Global,
-        read: &(),
-        settings: &Settings<'_>,
-    ) -> Result<Found, Memory> {
+    fn find(alloc: Global, read: &(), settings: &Settings<'_>) -> Result<Found, Memory> {
         let () = read;
         search_made(alloc, settings.signals, settings.seed, settings.limit)
     }

@@ -23,7 +23,12 @@ module _ {F : Type 0} {files : Ghosts F} {before mid now : F} {r : Reader} {rs :
   pub later_unread : {place : ℕ} (end : Unread) → WereRead files before mid (r ∷ []) (name ∷ []) (v, tt) → LeavesFiles files before mid → WasUnread files mid now rs names (place + 1) end
       → WasUnread files before now (r ∷ rs) (name ∷ names) place end
   later_unread {place = place} (stop.Told a) one kept u = record {
-    told = inr (v, one.read.0, stops_later (inputs rs names) (place + 1) (files.holds before) (files.holds mid) (files.read_faults before) (files.read_faults mid) (files.read_faults now) a.cause a.lines.items kept.holds one.counts u.told);
+    told = inr (
+      v,
+      one.read.0,
+      stops_later (inputs rs names) (place + 1) (files.holds before) (files.holds mid) (files.read_faults before) (files.read_faults mid) (files.read_faults now) a.cause a.lines.items
+          kept.holds one.counts u.told,
+    );
     no_put = u.no_put;
     memory = tt;
   }

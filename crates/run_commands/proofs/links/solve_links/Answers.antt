@@ -5,8 +5,7 @@ use Rattle.run_commands.proofs.links.solve_links.Goals as goal
 
 pub returns-clause-finds : goal.returns-clause-finds
 returns-clause-finds c =
-    let text : IsLinkTextOf c.in_ok-text.text.items c.in_ok-searched.searched.certificate = record { written = c.in_ok-text.ensures.text; read_back = c.in_ok-text.ensures.read_back } in
-    (
+    let text : IsLinkTextOf c.in_ok-text.text.items c.in_ok-searched.searched.certificate = record { written = c.in_ok-text.ensures.text; read_back = c.in_ok-text.ensures.read_back } in (
       c.in_ok-text.text.items,
       refl,
       record {

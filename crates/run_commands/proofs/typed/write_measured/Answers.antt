@@ -5,8 +5,7 @@ use Rattle.run_commands.proofs.typed.write_measured.Goals as goal
 
 pub returns-clause-finds : goal.returns-clause-finds
 returns-clause-finds c =
-    let line : c.push_verdict.new.out.items ≡ measured_lines c.args.artery.now c.args.made.now ++ verdict_line c.broken.result = search rules in
-    (
+    let line : c.push_verdict.new.out.items ≡ measured_lines c.args.artery.now c.args.made.now ++ verdict_line c.broken.result = search rules in (
       refl,
       (
         c.in_ok-bytes.bytes.items,
