@@ -247,7 +247,7 @@ pub fn record_of(
     requires shape { length timing.now.patterns ≡ count artery.now }
     requires first { 1 ≤ signal }
     requires last { signal ≤ count artery.now }
-    ensures { IfOk result (λ record. record ≡ record_of artery.now timing.now reference signal) }
+    ensures { IfOk result (λ made. made ≡ record_of artery.now timing.now reference signal) }
 {
     let mut record = Record::new(alloc);
     push_signal(alloc, &mut record, artery, timing, reference, signal)?;

@@ -63,7 +63,6 @@ fn push_signal_record(
 }
 
 /// Writes the record of each signal.
-#[tactic(auto, using(timing_measures::proofs::Pieces::piece_up))]
 fn push_records(
     alloc: Global,
     out: &mut Vec<u8>,
