@@ -1,4 +1,3 @@
-pub mod Reached
 pub mod Told
 pub mod Delivered
 pub mod Running
