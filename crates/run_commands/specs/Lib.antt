@@ -13,7 +13,9 @@ pub mod Bands
 pub mod Round
 pub mod Half
 pub mod Typed
+pub mod Shaped
 pub mod Draw
+pub mod Sheet
 pub mod Make
 pub mod Settings
 pub mod Rows
