@@ -3,7 +3,7 @@
 ghost use Rattle.std.specs.Prelude.{◌≡◌, IfOk, length, refl};
 ghost use Rattle.progression.specs.Street.{count};
 ghost use Rattle.run_inputs.specs.{Puts.{bytes_of}, Status.{IsOwnAnswer}};
-ghost use Rattle.run_commands.specs.{Ends.{IsDrawingEnd}, Shaped.{ShapedFinds}, Sheet.{IsSheet, sheet_lines, SheetFinds}};
+ghost use Rattle.run_commands.specs.{Ends.{IsDrawingEnd}, Sheet.{sheet_lines, TimingFinds, SheetFinds}};
 ghost use Rattle.run_commands.specs.declared.table.Usage.TheVariants as usage;
 
 use crate::command::Command;
@@ -44,7 +44,7 @@ fn sheet_shaped(
     reference: Reference,
 ) -> Result<Found, Memory>
     requires { length timing.now.patterns ≡ count artery.now }
-    ensures finds { IfOk result (λ a. ShapedFinds artery.now (IsSheet artery.now reference timing.now) timing.now a.cause a.lines.items (bytes_of a)) }
+    ensures finds { IfOk result (λ a. TimingFinds artery.now timing.now reference a.cause a.lines.items (bytes_of a)) }
     ensures ends { IfOk result (λ a. IsDrawingEnd a.cause) }
     ensures answer { IfOk result (λ a. IsOwnAnswer a.cause (bytes_of a)) }
 {
@@ -65,7 +65,7 @@ fn sheet_any(
     timing: &Timing,
     reference: Reference,
 ) -> Result<Found, Memory>
-    ensures finds { IfOk result (λ a. ShapedFinds artery.now (IsSheet artery.now reference timing.now) timing.now a.cause a.lines.items (bytes_of a)) }
+    ensures finds { IfOk result (λ a. TimingFinds artery.now timing.now reference a.cause a.lines.items (bytes_of a)) }
     ensures ends { IfOk result (λ a. IsDrawingEnd a.cause) }
     ensures answer { IfOk result (λ a. IsOwnAnswer a.cause (bytes_of a)) }
 {
