@@ -1,6 +1,6 @@
 //! The command `check-links`.
 
-ghost use Rattle.std.specs.Prelude.{◌≡◌, ◌≢◌, IfOk, refl};
+ghost use Rattle.std.specs.Prelude.{◌≡◌, ◌≢◌, None, IfOk, refl};
 ghost use Rattle.progression.specs.Street.{count};
 ghost use Rattle.certificate_checker.specs.declared.reject.Reject.TheVariants as refusal;
 ghost use Rattle.run_inputs.specs.{Puts.{bytes_of}, Status.{IsOwnAnswer}};
@@ -23,6 +23,7 @@ fn rejected(alloc: Global, artery: &Artery, reject: LinkReject) -> Result<Found,
     ensures cause { IfOk result (λ a. a.cause ≡ Cause.LinkRejected reject) }
     ensures kept { IfOk result (λ a. reject ≢ refusal.Memory) }
     ensures lines { IfOk result (λ a. a.lines.items ≡ link_rejected_line (count artery.now) reject) }
+    ensures no_put { IfOk result (λ a. a.bytes ≡ None) }
 {
     let mut lines = Vec::new(alloc);
     push_link_rejected(&mut lines, artery.count(), &reject)?;
