@@ -19,6 +19,7 @@ use run_commands::make::Make;
 use run_commands::narrow::{Narrow, Widen};
 use run_commands::renew::Renew;
 use run_commands::round::{Round, RoundFrom};
+use run_commands::sheet::Sheet;
 use run_commands::show::Show;
 use run_commands::solve::Solve;
 use run_commands::sweep::Sweep;
@@ -82,6 +83,7 @@ fn answer_by<F: Files>(
         Usage::Half => answer_of::<Half, F>(alloc, request, files),
         Usage::TimingOf => answer_of::<TimingOf, F>(alloc, request, files),
         Usage::Draw => answer_of::<Draw, F>(alloc, request, files),
+        Usage::Sheet => answer_of::<Sheet, F>(alloc, request, files),
         Usage::Renew => answer_of::<Renew, F>(alloc, request, files),
         Usage::Links => answer_of::<Links, F>(alloc, request, files),
         Usage::CheckLinks => answer_of::<CheckLinks, F>(alloc, request, files),

@@ -8,7 +8,7 @@ use std::test::Fail;
 
 /// In the order of the help: the word, what the files are read as, `NEW` where the next word names a file that may be put, the words behind, and
 /// `*` where any of several best answers may be told.
-static ROWS: [&str; 18] = [
+static ROWS: [&str; 19] = [
     "solve STREET NEW [WORK] *",
     "check STREET CERT",
     "bands STREET TIMING",
@@ -17,6 +17,7 @@ static ROWS: [&str; 18] = [
     "half STREET TIMING NEW *",
     "timing STREET PLAN NEW",
     "draw STREET FILE NEW [TITLE]",
+    "sheet STREET FILE NEW [REFERENCE]",
     "renew CERT NEW",
     "links STREET NEW [WORK] *",
     "check-links STREET LINKS",
@@ -48,6 +49,7 @@ fn setting_word(setting: Setting) -> &'static str {
         Setting::Work => " [WORK]",
         Setting::Cycles => " CYCLE ..",
         Setting::Title => " [TITLE]",
+        Setting::Reference => " [REFERENCE]",
     }
 }
 

@@ -7,12 +7,14 @@ use Rattle.std.proofs.lemmas.List.{length-take-le}
 use Rattle.std.proofs.lemmas.List.Elements.{All-nil}
 use Rattle.work_meter.specs.Work.{IsBelow}
 use Rattle.artery_model.specs.Limits.{is_name}
+use Rattle.description_reader.specs.References.{reference_named}
+use Rattle.description_reader.specs.declared.measure.Reference as moment
 use Rattle.run_inputs.specs.Cycles.{spells_cycle, are_cycles, SpellCycles}
 use Rattle.run_inputs.specs.Numbers.{number_within, signals_of, seed_of, limit_of}
 use Rattle.run_inputs.proofs.Spelled.{in_limits}
 use Rattle.run_inputs.proofs.Cycling.{cycles_spelled}
 use Rattle.run_commands.specs.declared.settings.Setting.{Setting}
-use Rattle.run_commands.specs.declared.settings.Setting.TheVariants.{Signals, Seed, Limit, Work, Cycles, Title}
+use Rattle.run_commands.specs.declared.settings.Setting.TheVariants.{Signals, Seed, Limit, Work, Cycles, Title, Reference}
 use Rattle.run_commands.specs.declared.table.Usage.{Usage}
 use Rattle.run_commands.specs.declared.table.TheConstants.{USAGES}
 use Rattle.run_commands.specs.Settings.{Settings, unsaid, InLimits, said, may_be_left_out, takes_all, cycles_said, none_left, all_said}
@@ -51,6 +53,10 @@ with_title : (w : List ℕ) (s : Settings) (fit : Bool) → is_name w ≡ fit �
 with_title w s true e k = record { limit = k.limit; least = k.least; most = k.most; cycles = k.cycles; title = e }
 with_title w s false e k = tt
 
+with_reference : (o : Option moment.Reference) (s : Settings) → InLimits s → IfSome (option_map (λ (r : moment.Reference). record s { reference = r }) o) InLimits
+with_reference None s k = tt
+with_reference (Some r) s k = record { limit = k.limit; least = k.least; most = k.most; cycles = k.cycles; title = k.title }
+
 said_limits : (k : Setting) (w : List ℕ) (s : Settings) → InLimits s → IfSome (said k w s) InLimits
 said_limits Signals w s h = with_signals (signals_of w) s (in_limits 2 16 w) h
 said_limits Seed w s h = with_seed (seed_of w) s h
@@ -58,6 +64,7 @@ said_limits Limit w s h = with_limit (limit_of w) s (some_limit w) h
 said_limits Work w s h = with_limit (limit_of w) s (some_limit w) h
 said_limits Cycles w s h = tt
 said_limits Title w s h = with_title w s (is_name w) refl h
+said_limits Reference w s h = with_reference (reference_named w) s h
 
 -- ---- all words
 if_limits : (b : Bool) (s : Settings) → InLimits s → IfSome (if b then Some s else None) InLimits

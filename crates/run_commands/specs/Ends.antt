@@ -54,7 +54,7 @@ IsTypedEnd (cause.Refused r) = Unit {0}
 IsTypedEnd (cause.TooFine ticks) = Unit {0}
 IsTypedEnd c = ⊥
 
--- a timing is drawn, or has another number of signals, or there is none
+-- a timing is drawn or made a table, or has another number of signals, or there is none
 abbrev pub IsDrawingEnd : Cause → Type 0
 IsDrawingEnd cause.Done = Unit {0}
 IsDrawingEnd (cause.Fails rule.Shape) = Unit {0}

@@ -14,8 +14,10 @@ pub mod Bound
 pub mod Round
 pub mod Half
 pub mod Typed
+pub mod Shaped
 pub mod Draw
 pub mod Narrow
+pub mod Sheet
 pub mod Make
 pub mod Settings
 pub mod Rows

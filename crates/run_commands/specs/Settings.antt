@@ -3,10 +3,13 @@ use Rattle.std.specs.Prelude.{◌≡◌, ℕ, ◌≤◌, Bool, true, false, List
 use Rattle.work_meter.specs.Work.{IsBelow}
 use Rattle.artery_model.specs.Bounds.{least_signals, most_first_signals}
 use Rattle.artery_model.specs.Limits.{is_name}
+use Rattle.description_reader.specs.References.{reference_named}
+use Rattle.description_reader.specs.declared.measure.Reference as moment
+use Rattle.description_reader.specs.declared.measure.Reference.TheVariants.{Red}
 use Rattle.run_inputs.specs.Numbers.{signals_of, seed_of, limit_of, usual_work}
 use Rattle.run_inputs.specs.Cycles.{are_cycles, SpellCycles}
 use Rattle.run_commands.specs.declared.settings.Setting.{Setting}
-use Rattle.run_commands.specs.declared.settings.Setting.TheVariants.{Signals, Seed, Limit, Work, Cycles, Title}
+use Rattle.run_commands.specs.declared.settings.Setting.TheVariants.{Signals, Seed, Limit, Work, Cycles, Title, Reference}
 use Rattle.run_commands.specs.declared.settings.Settings as code
 
 pub record Settings : Type 0 where
@@ -15,13 +18,14 @@ pub record Settings : Type 0 where
   pub seed : ℕ
   pub cycles : List (List ℕ)  -- the words that spell them
   pub title : Option (List ℕ)
+  pub reference : moment.Reference  -- from which offsets count
 
 abbrev pub settings_view : code.Settings → Settings
-settings_view s = record { limit = s.limit; signals = s.signals; seed = s.seed; cycles = map string_bytes s.cycles.now; title = option_map (λ word. word.now) s.title }
+settings_view s = record { limit = s.limit; signals = s.signals; seed = s.seed; cycles = map string_bytes s.cycles.now; title = option_map (λ word. word.now) s.title; reference = s.reference }
 
 -- where no word says them
 abbrev pub unsaid : Settings
-unsaid = record { limit = Some usual_work; signals = least_signals; seed = 0; cycles = []; title = None }
+unsaid = record { limit = Some usual_work; signals = least_signals; seed = 0; cycles = []; title = None; reference = Red }
 
 -- a search has work to spend, 2 to 16 signals are made, each cycle is one, and a title is such a name as signals have
 pub record InLimits (s : Settings) : Type 0 where
@@ -40,11 +44,13 @@ said Limit w s = option_map (λ n. record s { limit = n }) (limit_of w)
 said Work w s = option_map (λ n. record s { limit = n }) (limit_of w)
 said Cycles w s = None
 said Title w s = if is_name w then Some (record s { title = Some w }) else None
+said Reference w s = option_map (λ r. record s { reference = r }) (reference_named w)
 
 -- where it stands last it may be left out
 abbrev pub may_be_left_out : Setting → Bool
 may_be_left_out Work = true
 may_be_left_out Title = true
+may_be_left_out Reference = true
 may_be_left_out k = false
 
 -- it takes all words that are left

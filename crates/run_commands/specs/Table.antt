@@ -18,6 +18,7 @@ use Rattle.run_commands.specs.Round.{RoundFinds, RoundFromFinds}
 use Rattle.run_commands.specs.Half.{HalfFinds}
 use Rattle.run_commands.specs.Typed.{TypedFinds}
 use Rattle.run_commands.specs.Draw.{DrawFinds}
+use Rattle.run_commands.specs.Sheet.{SheetFinds}
 use Rattle.run_commands.specs.Help.{HelpFinds, VersionFinds}
 use Rattle.speed_steps.specs.declared.way.Way.TheVariants.{Inwards, Outwards}
 use Rattle.run_commands.specs.Narrow.{IsMove}
@@ -26,8 +27,8 @@ use Rattle.run_commands.specs.Trial.{IsTrial}
 use Rattle.run_commands.specs.Sweep.{IsSweep}
 use Rattle.run_commands.specs.Ends.{IsDone, IsVerdict, IsTestEnd, IsCheckEnd, IsLinkCheckEnd, IsRoundEnd, IsRoundFromEnd, IsHalfEnd, IsTypedEnd, IsDrawingEnd}
 use Rattle.run_commands.specs.declared.table.Usage.{Usage}
-use Rattle.run_commands.specs.declared.table.Usage.TheVariants.{Solve, Check, Bands, Round, RoundFrom, Half, TimingOf, Draw, Renew, Links, CheckLinks, Hold, Show, Narrow, Widen, Make, Trial, Sweep, Help, Version}
-use Rattle.run_commands.specs.declared.table.TheConstants.{SOLVE, CHECK, BANDS, ROUND, ROUND_FROM, HALF, TIMING_OF, DRAW, RENEW, LINKS, CHECK_LINKS, HOLD, SHOW, NARROW, WIDEN, MAKE, TRIAL, SWEEP, HELP, VERSION, USAGES}
+use Rattle.run_commands.specs.declared.table.Usage.TheVariants.{Solve, Check, Bands, Round, RoundFrom, Half, TimingOf, Draw, Renew, Links, CheckLinks, Hold, Show, Narrow, Widen, Make, Trial, Sweep, Help, Version, Sheet}
+use Rattle.run_commands.specs.declared.table.TheConstants.{SOLVE, CHECK, BANDS, ROUND, ROUND_FROM, HALF, TIMING_OF, DRAW, RENEW, LINKS, CHECK_LINKS, HOLD, SHOW, NARROW, WIDEN, MAKE, TRIAL, SWEEP, HELP, VERSION, USAGES, SHEET}
 
 abbrev pub row : Usage → Row
 row Solve = row_of SOLVE
@@ -38,6 +39,7 @@ row RoundFrom = row_of ROUND_FROM
 row Half = row_of HALF
 row TimingOf = row_of TIMING_OF
 row Draw = row_of DRAW
+row Sheet = row_of SHEET
 row Renew = row_of RENEW
 row Links = row_of LINKS
 row CheckLinks = row_of CHECK_LINKS
@@ -68,6 +70,7 @@ Finds RoundFrom v s c lines put = RoundFromFinds v.0 v.1.0 v.1.1.0 c lines put
 Finds Half v s c lines put = HalfFinds v.0 v.1.0 c lines put
 Finds TimingOf v s c lines put = TypedFinds v.0 v.1.0 c lines put
 Finds Draw v s c lines put = DrawFinds v.0 v.1.0 s.title c lines put
+Finds Sheet v s c lines put = SheetFinds v.0 v.1.0 s.reference c lines put
 Finds Renew v s c lines put = With (IsRenewal v.0 c lines) put
 Finds Links v s c lines put = With (IsLinkSolution v.0 s.limit c lines) put
 Finds CheckLinks v s c lines put = CheckLinksFinds v.0 v.1.0 c lines
@@ -91,6 +94,7 @@ IsOwnEnd RoundFrom c = IsRoundFromEnd c
 IsOwnEnd Half c = IsHalfEnd c
 IsOwnEnd TimingOf c = IsTypedEnd c
 IsOwnEnd Draw c = IsDrawingEnd c
+IsOwnEnd Sheet c = IsDrawingEnd c
 IsOwnEnd Renew c = IsDone c
 IsOwnEnd Links c = IsVerdict c
 IsOwnEnd CheckLinks c = IsLinkCheckEnd c

@@ -27,6 +27,8 @@
 //!   where nothing was found (`put_of` of `run_inputs`).
 //! - `timing` (`specs/Typed.antt`) puts the one timing that a typed plan has by `typed_plan`, with the widest bands on its offsets,
 //!   where it keeps the rules that speak of no band (`HasTiming`), or tells the first reason for which the plan has none.
+//! - `draw` and `sheet` ask of a file's timing its number of signals alone (`specs/Shaped.antt`), put its picture or its table, and tell the
+//!   first rule that it breaks.
 //! - `sweep` (`specs/Sweep.antt`) puts the table of `cycle_sweep` of just the cycles that the words spell, and always ends with
 //!   `Done`; it keeps the words of the cycles, which are read as numbers when the street is there. `renew` puts the second text of
 //!   the certificate that it read.
@@ -51,6 +53,7 @@ mod request;
 pub mod round;
 mod searching;
 mod settings;
+pub mod sheet;
 pub mod show;
 pub mod solve;
 pub mod sweep;

@@ -5,6 +5,7 @@ ghost use Rattle.run_commands.specs.Settings.{settings_view, unsaid, said, may_b
 
 use artery_model::bounds::LEAST_SIGNALS;
 use artery_model::is_name;
+use description_reader::Reference;
 use run_inputs::{USUAL_WORK, are_cycles, limit_in, seed_in, signals_in};
 
 /// What a word that names no file says.
@@ -22,6 +23,8 @@ pub enum Setting {
     Cycles,
     /// The title of a picture, which may be left out at the end.
     Title,
+    /// The moment from which offsets count, which may be left out at the end.
+    Reference,
 }
 
 /// What the words say that name no file. What a command's row doesn't ask for is as where no word says it.
@@ -35,6 +38,8 @@ pub struct Settings<'a> {
     /// The words that spell the cycles of a sweep.
     pub cycles: &'a [String],
     pub title: Option<&'a str>,
+    /// The moment from which offsets count.
+    pub reference: Reference,
 }
 
 /// Where no word says them.
@@ -47,6 +52,7 @@ pub fn unsaid() -> Settings<'static>
         seed: 0,
         cycles: &[],
         title: None,
+        reference: Reference::Red,
     }
 }
 
@@ -86,6 +92,13 @@ fn said<'a>(kind: Setting, word: &'a str, settings: Settings<'a>) -> Option<Sett
         }
         Setting::Cycles => None,
         Setting::Title => titled(word, settings),
+        Setting::Reference => {
+            let reference = Reference::named(word)?;
+            Some(Settings {
+                reference,
+                ..settings
+            })
+        }
     }
 }
 
@@ -94,7 +107,7 @@ fn may_be_left_out(kind: Setting) -> bool
     ensures { result ≡ may_be_left_out kind }
 {
     match kind {
-        Setting::Work | Setting::Title => true,
+        Setting::Work | Setting::Title | Setting::Reference => true,
         Setting::Signals | Setting::Seed | Setting::Limit | Setting::Cycles => false,
     }
 }
@@ -105,7 +118,12 @@ fn takes_all(kind: Setting) -> bool
 {
     match kind {
         Setting::Cycles => true,
-        Setting::Signals | Setting::Seed | Setting::Limit | Setting::Work | Setting::Title => false,
+        Setting::Signals
+        | Setting::Seed
+        | Setting::Limit
+        | Setting::Work
+        | Setting::Title
+        | Setting::Reference => false,
     }
 }
 

@@ -28,6 +28,7 @@ pub enum Usage {
     Half,
     TimingOf,
     Draw,
+    Sheet,
     Renew,
     Links,
     CheckLinks,
@@ -43,7 +44,7 @@ pub enum Usage {
 }
 
 /// In the order of the help.
-pub const USAGES: [Usage; 20] = [
+pub const USAGES: [Usage; 21] = [
     Usage::Solve,
     Usage::Check,
     Usage::Bands,
@@ -52,6 +53,7 @@ pub const USAGES: [Usage; 20] = [
     Usage::Half,
     Usage::TimingOf,
     Usage::Draw,
+    Usage::Sheet,
     Usage::Renew,
     Usage::Links,
     Usage::CheckLinks,
@@ -146,6 +148,15 @@ pub const DRAW: Parts = (
     &[Setting::Title],
     false,
     "maxband draw STREET FILE SVG [TITLE]          put a picture of the timing of a timing or certificate\n",
+);
+
+pub const SHEET: Parts = (
+    "sheet",
+    &[Reader::Description, Reader::Timed],
+    true,
+    &[Setting::Reference],
+    false,
+    "maxband sheet STREET FILE SHEET [REFERENCE]   put a timing as a table of seconds, for controllers and spreadsheets\n",
 );
 
 pub const RENEW: Parts = (
@@ -270,6 +281,7 @@ impl Usage {
             Usage::Half => HALF,
             Usage::TimingOf => TIMING_OF,
             Usage::Draw => DRAW,
+            Usage::Sheet => SHEET,
             Usage::Renew => RENEW,
             Usage::Links => LINKS,
             Usage::CheckLinks => CHECK_LINKS,
