@@ -2,5 +2,4 @@ mod Allowed
 mod Matched
 mod Pinned
 mod Plain
-mod Quantities
 mod Saying

@@ -1,24 +1,20 @@
 -- A valid street stays valid with one cycle alone.
-use Rattle.std.proofs.Common.{◌≡◌, ℕ, pos, List, [], ◌∷◌, ◌++◌, Option, None, Some, Bool, true, refl, sym, ◌∙◌, ap, subst}
+use Rattle.std.proofs.Common.{◌≡◌, ℕ, pos, List, [], ◌∷◌, ◌++◌, Option, None, Some, Bool, true, refl}
 use Rattle.std.specs.Prelude.{codes}
-use Rattle.std.proofs.lemmas.Option.{none-some}
 use Rattle.rational_theory.specs.Rational.{ℚ, whole}
 use Rattle.rational_theory.proofs.Order.{≤ℚ_refl}
 use Rattle.progression.specs.Street.{Street}
 use Rattle.progression.specs.declared.parts.Head.{Head}
 use Rattle.progression.specs.declared.parts.Signal.{Signal}
 use Rattle.progression.specs.declared.parts.Link.{Link}
-use Rattle.artery_model.specs.Faults.{Fault, first_fault, unless, artery_place, Names, fault_of}
+use Rattle.artery_model.specs.Faults.{Fault, first_fault, unless, artery_place}
 use Rattle.artery_model.specs.Limits.{within, at_most, pair_ranges, head_ranges, range_tests, rule_tests, artery_fault}
 use Rattle.artery_model.specs.Valid.{IsQuantity, IsValid}
 use Rattle.artery_model.proofs.Validity.{AllNone, each_none}
 use Rattle.artery_model.specs.declared.kind.Kind.{Kind}
 use Rattle.artery_model.specs.declared.kind.Kind.TheVariants as kind
-use Rattle.artery_model.specs.declared.kind.Flaw.{Flaw}
-use Rattle.artery_model.specs.declared.kind.Refusal.{Refusal}
-use Rattle.artery_model.specs.declared.kind.Flaw.TheVariants.{Refused}
 use Rattle.cycle_sweep.specs.Rows.{head_at, at_cycle}
-use Rattle.cycle_sweep.proofs.Quantities.{order_is, quantity_is}
+use Rattle.artery_parts.proofs.Quantities.{order_is, quantity_is}
 
 -- ---- lists of tests
 none_of : (tests : List (Option Fault)) → AllNone tests → first_fault tests ≡ None
@@ -61,12 +57,7 @@ module _ (a : Street) (cycle : ℚ) (q : IsQuantity (pos 1) (pos 3600) cycle) wh
       let all = each_none (first_fault (range_tests a) ∷ first_fault (rule_tests a) ∷ []) h in
       none_of (first_fault (range_tests (at_cycle a cycle)) ∷ first_fault (rule_tests (at_cycle a cycle)) ∷ []) (ranges_pass all.0, (rules_pass all.1.0, tt))
 
-  -- so it isn't refused
-  pub never_refused : IsValid a → (head : Head) (signals : List Signal) (links : List Link) (flaw : Flaw) (r : Refusal)
-      → head ≡ head_at a.head cycle → signals ≡ a.signals → links ≡ a.links
-      → flaw ≡ Refused r → Names flaw (artery_fault (record { head = head; signals = signals; links = links })) → ⊥
-  never_refused valid head signals links flaw r of_head of_signals of_links refused named =
-      let given : Street = record { head = head; signals = signals; links = links } in
-      let same : given ≡ at_cycle a cycle = rw (of_head, of_signals, of_links) refl in
-      let fault : artery_fault given ≡ Some (fault_of r) = subst (λ f. Names f (artery_fault given)) refused named in
-      none-some (fault_of r) (sym (stays_valid valid.no_fault) ∙ sym (ap artery_fault same) ∙ fault)
+  -- so parts that are its own break no rule
+  pub passes_at : IsValid a → (head : Head) (signals : List Signal) (links : List Link) → head ≡ head_at a.head cycle → signals ≡ a.signals → links ≡ a.links
+      → artery_fault (record { head = head; signals = signals; links = links }) ≡ None
+  passes_at valid head signals links h s l = rw (h, s, l) (stays_valid valid.no_fault)

@@ -1,21 +1,13 @@
-//! Copies of a street's parts, and the street at one cycle.
+//! The street at one cycle.
 
-ghost use Rattle.std.specs.Prelude.{◌≡◌, ◌++◌, [], ◌∷◌, IfOk, OnOk};
+ghost use Rattle.std.specs.Prelude.{◌≡◌, IfOk};
 ghost use Rattle.artery_model.specs.{Bounds.{least_cycle, most_cycle}, Valid.{IsQuantity}};
 ghost use Rattle.cycle_sweep.specs.Rows.{head_at, at_cycle};
 
-use artery_model::{Artery, Flaw, Head, Link, Pair, Signal, Text};
+use artery_model::{Artery, Head, Pair};
+use artery_parts::{artery_of, copied_links, copied_name, copied_signals};
 use narrow_fraction::{Frac, Memory};
 use std::alloc::Global;
-
-fn copied_name(alloc: Global, name: &Option<Text>) -> Result<Option<Text>, Memory>
-    ensures { IfOk result (λ copy. copy ≡ name.now) }
-{
-    match name {
-        Some(name) => Ok(Some(Text::new(alloc, name.as_str())?)),
-        None => Ok(None),
-    }
-}
 
 /// The same head with this cycle alone.
 fn head_at(alloc: Global, head: &Head, cycle: Frac) -> Result<Head, Memory>
@@ -37,61 +29,6 @@ fn head_at(alloc: Global, head: &Head, cycle: Frac) -> Result<Head, Memory>
     })
 }
 
-fn copied_signal(alloc: Global, signal: &Signal) -> Result<Signal, Memory>
-    ensures { IfOk result (λ copy. copy ≡ signal.now) }
-{
-    Ok(Signal {
-        name: Text::new(alloc, signal.name.as_str())?,
-        red: signal.red,
-        left_out: signal.left_out,
-        left_in: signal.left_in,
-        patterns: signal.patterns,
-        clear_out: signal.clear_out,
-        clear_in: signal.clear_in,
-    })
-}
-
-fn copied_link(link: &Link) -> Link
-    ensures { result ≡ link.now }
-{
-    Link {
-        distance_out: link.distance_out,
-        distance_in: link.distance_in,
-        speed_out: link.speed_out,
-        speed_in: link.speed_in,
-        change_out: link.change_out,
-        change_in: link.change_in,
-    }
-}
-
-fn push<T: Drop>(items: &mut Vec<T>, item: T) -> Result<(), Memory>
-    ensures { OnOk result (items.new.items ≡ items.old.items ++ item ∷ []) }
-{
-    items.push(item)?;
-    Ok(())
-}
-
-fn copied_signals(alloc: Global, signals: &[Signal]) -> Result<Vec<Signal>, Memory>
-    ensures { IfOk result (λ copy. copy.items ≡ signals.now) }
-{
-    let mut copy = Vec::new(alloc);
-    for signal in signals {
-        let next = copied_signal(alloc, signal)?;
-        push(&mut copy, next)?;
-    }
-    Ok(copy)
-}
-
-fn copied_links(alloc: Global, links: &[Link]) -> Result<Vec<Link>, Memory>
-    ensures { IfOk result (λ copy. copy.items ≡ links.now) }
-{
-    let mut copy = Vec::new(alloc);
-    for link in links {
-        push(&mut copy, copied_link(link))?;
-    }
-    Ok(copy)
-}
-
 /// The street with this cycle alone: a valid street is valid with any cycle that an artery may have.
 pub(crate) fn artery_at(alloc: Global, artery: &Artery, cycle: Frac) -> Result<Artery, Memory>
     requires { IsQuantity least_cycle most_cycle cycle }
@@ -101,9 +38,5 @@ pub(crate) fn artery_at(alloc: Global, artery: &Artery, cycle: Frac) -> Result<A
     let head = head_at(alloc, artery.head(), cycle)?;
     let signals = copied_signals(alloc, artery.signals())?;
     let links = copied_links(alloc, artery.links())?;
-    match Artery::new(alloc, head, signals, links) {
-        Ok(artery) => Ok(artery),
-        Err(Flaw::Memory) => Err(Memory),
-        Err(Flaw::Refused(_)) => unreachable!(),
-    }
+    artery_of(alloc, head, signals, links)
 }

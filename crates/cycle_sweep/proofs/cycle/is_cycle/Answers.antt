@@ -1,5 +1,5 @@
 use Rattle.std.proofs.Common.{pos}
-use Rattle.cycle_sweep.proofs.Quantities.{quantity_says}
+use Rattle.artery_parts.proofs.Quantities.{quantity_says}
 use Rattle.cycle_sweep.proofs.cycle.is_cycle.Goals as goal
 
 pub returns-clause-quantity : goal.returns-clause-quantity
