@@ -8,7 +8,7 @@ use std::test::Fail;
 
 /// In the order of the help: the word, what the files are read as, `NEW` where the next word names a file that may be put, the words behind, and
 /// `*` where any of several best answers may be told.
-static ROWS: [&str; 19] = [
+static ROWS: [&str; 21] = [
     "solve STREET NEW [WORK] *",
     "check STREET CERT",
     "bands STREET TIMING",
@@ -23,6 +23,8 @@ static ROWS: [&str; 19] = [
     "check-links STREET LINKS",
     "hold STREET TIMING",
     "show STREET",
+    "narrow STREET NEW",
+    "widen STREET NEW",
     "make SIGNALS SEED",
     "trial SIGNALS SEED WORK *",
     "sweep STREET NEW WORK CYCLE ..",

@@ -5,6 +5,7 @@ use Rattle.std.specs.Fmt.{decimal}
 use Rattle.progression.specs.Street.{Street, count}
 use Rattle.progression.specs.declared.parts.Dir.{Dir}
 use Rattle.progression.specs.declared.parts.Dir.TheVariants.{Outbound, Inbound}
+use Rattle.artery_model.specs.Valid.{IsValid}
 use Rattle.speed_steps.specs.Moved.{street_moved, stays, limits_changed}
 use Rattle.speed_steps.specs.declared.way.Way.{Way}
 use Rattle.speed_steps.specs.declared.way.Way.TheVariants.{Inwards, Outwards}
@@ -33,8 +34,9 @@ abbrev pub moved_lines : Way → Street → List ℕ
 moved_lines way a = (moved_word way ++ (decimal (limits_changed way a) ++ codes "\n")) ++ stays_lines way a
 
 -- ---- the answer
--- the canonical description of the street with its limits moved
+-- the canonical description of the street with its limits moved; the street is valid, so that the laws of `speed_steps` are about it
 pub record IsMove (way : Way) (a : Street) (c : Cause) (lines text : List ℕ) : Type 0 where
+  pub valid : IsValid a
   pub cause_is : c ≡ cause.Done
   pub lines_are : lines ≡ moved_lines way a
   pub text_is : IsCanonicalText (street_moved way a) text

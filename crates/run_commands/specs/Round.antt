@@ -102,9 +102,9 @@ RoundFinds a w (cause.Rejected reject) lines put = Rejects whole_bands whole_che
 RoundFinds a w (cause.Unplanned e) lines put = IsUnplanned IsAccepted a w w.timing e lines put
 RoundFinds a w c lines put = ⊥
 
--- the certificate is accepted, and the given timing breaks a rule, this first
-pub record IsUnfit (a : Street) (w : Warrant) (given : Option TimingRecord) (f : Failing) (lines : List ℕ) (put : Option (List ℕ)) : Type 0 where
-  pub accepted : IsBound a w
+-- the certificate is accepted so, and the given timing breaks a rule, this first
+pub record IsUnfit (Accepts : Street → Warrant → Type 0) (a : Street) (w : Warrant) (given : Option TimingRecord) (f : Failing) (lines : List ℕ) (put : Option (List ℕ)) : Type 0 where
+  pub accepted : Accepts a w
   pub timing : TimingRecord
   pub timing_is : given ≡ Some timing
   pub first : IsFirstFailing a timing f
@@ -115,7 +115,7 @@ pub record IsUnfit (a : Street) (w : Warrant) (given : Option TimingRecord) (f :
 abbrev pub RoundFromFinds : Street → Warrant → Option TimingRecord → Cause → List ℕ → Option (List ℕ) → Type 0
 RoundFromFinds a w given cause.Done lines put = With (IsRounded IsBound a w given lines) put
 RoundFromFinds a w given (cause.Rejected reject) lines put = Rejects whole_bands whole_checked a w (cause.Rejected reject) lines × IsRefused (widen a) w × (put ≡ None)
-RoundFromFinds a w given (cause.Fails f) lines put = IsUnfit a w given f lines put
+RoundFromFinds a w given (cause.Fails f) lines put = IsUnfit IsBound a w given f lines put
 RoundFromFinds a w given (cause.Unplanned e) lines put = IsUnplanned IsBound a w given e lines put
 RoundFromFinds a w given c lines put = ⊥
 

@@ -93,6 +93,7 @@ fn move_limits(alloc: Global, way: Way, artery: &Artery) -> Result<Found, Memory
     ensures ends { IfOk result (λ a. IsDone a.cause) }
     ensures answer { IfOk result (λ a. IsOwnAnswer a.cause (bytes_of a)) }
 {
+    artery.known_valid();
     let moved = street_moved(alloc, way, artery)?;
     let bytes = print_artery(alloc, &moved)?;
     let lines = moved_lines(alloc, way, artery)?;

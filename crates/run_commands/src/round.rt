@@ -9,7 +9,7 @@ ghost use Rattle.run_commands.specs.Bound.{IsBound, BoundHolds};
 ghost use Rattle.run_commands.specs.Ends.{IsRoundEnd, IsRoundFromEnd};
 ghost use Rattle.run_commands.specs.declared.table.Usage.TheVariants as usage;
 
-use crate::bound::check_bound;
+use crate::bound::bound_refusal;
 use crate::check::rejected;
 use crate::command::Command;
 use crate::hold::fails;
@@ -194,7 +194,7 @@ fn round_other(
     ensures ends { IfOk result (λ a. IsRoundFromEnd a.cause) }
     ensures answer { IfOk result (λ a. IsOwnAnswer a.cause (bytes_of a)) }
 {
-    if let Err(reject) = check_bound(alloc, artery, certificate) {
+    if let Some(reject) = bound_refusal(alloc, artery, certificate)? {
         return rejected(alloc, artery, reject);
     }
     let Some(timing) = &timed.timing else {

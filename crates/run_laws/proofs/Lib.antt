@@ -8,6 +8,7 @@ pub mod PutRead
 pub mod PutAccepted
 pub mod Says
 pub mod Unlimited
+mod Moving
 pub mod PlanHeld
 pub mod Found
 pub mod Kept

@@ -30,7 +30,7 @@ use Rattle.typed_plan.specs.Ends.{OneTiming}
 use Rattle.typed_plan.specs.declared.timing.Measured.{Measured}
 use Rattle.run_inputs.specs.Lines.{refused_line}
 use Rattle.run_commands.specs.Lines.{fails_line}
-use Rattle.run_inputs.specs.Puts.{NamedBytes, put_of}
+use Rattle.run_inputs.specs.Puts.{NamedBytes, put_of, With}
 use Rattle.run_inputs.specs.Reading.{Value, Values}
 use Rattle.run_inputs.specs.declared.reader.Reader.{Reader}
 use Rattle.run_commands.specs.Searched.{cause_of}
@@ -49,7 +49,12 @@ use Rattle.second_plan.specs.declared.answer.PlanEnd.TheVariants as end
 use Rattle.certificate_checker.specs.Accepted.{limit_of, IsAccepted}
 use Rattle.progression.specs.Good.{Good}
 use Rattle.rational_theory.specs.Rational.{ℚ}
-use Rattle.run_commands.specs.Round.{plan_lines, unplanned_line, IsCertified, IsRounded, IsUnfit, Unplans, RoundFinds, RoundFromFinds}
+use Rattle.run_commands.specs.Bound.{IsBound, IsRefused}
+use Rattle.run_commands.specs.Round.{plan_lines, unplanned_line, IsCertified, IsRounded, IsUnfit, IsUnplanned, Unplans, RoundFinds, RoundFromFinds}
+use Rattle.run_commands.specs.Narrow.{IsMove}
+use Rattle.speed_steps.specs.Moved.{widen, street_moved}
+use Rattle.speed_steps.specs.declared.way.Way.{Way}
+use Rattle.speed_steps.specs.declared.way.Way.TheVariants.{Inwards, Outwards}
 use Rattle.run_commands.specs.Half.{ticks_line, end_line, HalfFinds}
 use Rattle.run_commands.specs.Typed.{measured_lines, WritesTiming, TypedFinds}
 use Rattle.run_commands.specs.Draw.{drawn_lines, DrawFinds}
@@ -144,20 +149,28 @@ no_value o x e f = absurd cc
 same_lines : (a : Street) (k m : ℕ) (ns os : List ℕ) (t u : TimingRecord) (x y : ℚ) → k ≡ m → ns ≡ os → t ≡ u → x ≡ y → plan_lines a k ns t x ≡ plan_lines a m os u y
 same_lines a k m ns os t u x y e f g h = ap₂ (λ n ms. plan_lines a n ms t x) e f ∙ ap₂ (λ p z. plan_lines a m os p z) g h
 
-module _ (a : Street) (w : Warrant) (o : Option TimingRecord) where
-  pub unplanned_accepted : (e : PlanEnd) → Unplans a w o e → IsAccepted a w
+module _ (Accepts : Street → Warrant → Type 0) (a : Street) (w : Warrant) (o : Option TimingRecord) where
+  pub unplanned_accepted : (e : PlanEnd) → Unplans Accepts a w o e → Accepts a w
   unplanned_accepted end.NoTimingGiven h = h.0
   unplanned_accepted e h = h.2.accepted
 
   fails_apart : FailsRulesOut → (t u : TimingRecord) (f : Failing) → o ≡ Some t → o ≡ Some u → Good a t → IsFirstFailing a u f → ⊥
   fails_apart rules t u f e g good h = rules a u f h.fails (subst (λ p. Good a p) (sym (same_value o t u e g)) good)
 
-  unplans_unfit : FailsRulesOut → (e : PlanEnd) (u : TimingRecord) (f : Failing) → Unplans a w o e → o ≡ Some u → IsFirstFailing a u f → ⊥
+  unplans_unfit : FailsRulesOut → (e : PlanEnd) (u : TimingRecord) (f : Failing) → Unplans Accepts a w o e → o ≡ Some u → IsFirstFailing a u f → ⊥
   unplans_unfit rules end.NoTimingGiven u f h g k = no_value o u g h.1
   unplans_unfit rules e u f h g k = fails_apart rules h.0 u f h.2.timing_is g h.2.good k
 
-module _ (ends : second.OneEnd) (apart : PlanOrEnd) (one : OnePlan) (a : Street) (w : Warrant) (o : Option TimingRecord) where
-  plans_once : (x y s u : List ℕ) → IsRounded a w o x s → IsRounded a w o y u → (x ≡ y) × (s ≡ u)
+-- what is found of a timing whose plan is made, by a certificate that is accepted so or refused so: of `round-from`, and of `round`, which has the certificate's own
+abbrev FromFinds : (Street → Warrant → Type 0) → (Street → Warrant → Type 0) → Street → Warrant → Option TimingRecord → Cause → List ℕ → Option (List ℕ) → Type 0
+FromFinds Accepts Refuses a w given cause.Done lines put = With (IsRounded Accepts a w given lines) put
+FromFinds Accepts Refuses a w given (cause.Rejected r) lines put = Rejects whole_bands whole_checked a w (cause.Rejected r) lines × Refuses a w × (put ≡ None)
+FromFinds Accepts Refuses a w given (cause.Fails f) lines put = IsUnfit Accepts a w given f lines put
+FromFinds Accepts Refuses a w given (cause.Unplanned e) lines put = IsUnplanned Accepts a w given e lines put
+FromFinds Accepts Refuses a w given c lines put = ⊥
+
+module _ (ends : second.OneEnd) (apart : PlanOrEnd) (one : OnePlan) (Accepts Refuses : Street → Warrant → Type 0) (a : Street) (w : Warrant) (o : Option TimingRecord) where
+  plans_once : (x y s u : List ℕ) → IsRounded Accepts a w o x s → IsRounded Accepts a w o y u → (x ≡ y) × (s ≡ u)
   plans_once x y s u h k =
       let t = same_value o h.timing k.timing h.certified.timing_is k.certified.timing_is in
       let q = same_value (limit_of w.claim) h.claim k.claim h.certified.claim_is k.certified.claim_is in
@@ -168,57 +181,85 @@ module _ (ends : second.OneEnd) (apart : PlanOrEnd) (one : OnePlan) (a : Street)
       )
 
   -- the timing and the number of another certificate's end
-  ends_here : (t u : TimingRecord) (x y : ℚ) (e : PlanEnd) → IsCertified a w o t x → IsCertified a w o u y → Ends a y u e → Ends a x t e
+  ends_here : (t u : TimingRecord) (x y : ℚ) (e : PlanEnd) → IsCertified Accepts a w o t x → IsCertified Accepts a w o u y → Ends a y u e → Ends a x t e
   ends_here t u x y e c d h =
       subst (λ p. Ends a x p e) (same_value o t u c.timing_is d.timing_is) (subst (λ q. Ends a q u e) (same_value (limit_of w.claim) x y c.claim_is d.claim_is) h)
 
-  plan_apart : (e : PlanEnd) (x s : List ℕ) → IsRounded a w o x s → Unplans a w o e → ⊥
+  plan_apart : (e : PlanEnd) (x s : List ℕ) → IsRounded Accepts a w o x s → Unplans Accepts a w o e → ⊥
   plan_apart end.NoTimingGiven x s h k = no_value o h.timing h.certified.timing_is k.1
   plan_apart e x s h k = apart a h.claim h.timing h.plan e h.certified.valid h.certified.good h.answer (ends_here h.timing k.0 h.claim k.1 e h.certified k.2 k.3)
 
-  unplans_once : (e f : PlanEnd) → Unplans a w o e → Unplans a w o f → e ≡ f
+  unplans_once : (e f : PlanEnd) → Unplans Accepts a w o e → Unplans Accepts a w o f → e ≡ f
   unplans_once end.NoTimingGiven end.NoTimingGiven h k = refl
   unplans_once end.NoTimingGiven f h k = absurd (no_value o k.0 k.2.timing_is h.1)
   unplans_once e end.NoTimingGiven h k = absurd (no_value o h.0 h.2.timing_is k.1)
   unplans_once e f h k = ends a h.1 h.0 e f h.2.valid h.2.good h.3 (ends_here h.0 k.0 h.1 k.1 f h.2 k.2 k.3)
 
-  module _ (one_first : OneFirst) (rules : FailsRulesOut) (refused : RefusedIsNotAccepted) (once : OneFirstRefusal) where
-    unfit_once : (f g : Failing) (x y : List ℕ) (s u : Option (List ℕ)) → IsUnfit a w o f x s → IsUnfit a w o g y u → (cause.Fails f ≡ cause.Fails g) × (x ≡ y) × (s ≡ u)
+  module _ (one_first : OneFirst) (rules : FailsRulesOut) (clash : (c : Cause) (l : List ℕ) → Rejects whole_bands whole_checked a w c l → Refuses a w → Accepts a w → ⊥) (once : OneFirstRefusal) where
+    unfit_once : (f g : Failing) (x y : List ℕ) (s u : Option (List ℕ)) → IsUnfit Accepts a w o f x s → IsUnfit Accepts a w o g y u → (cause.Fails f ≡ cause.Fails g) × (x ≡ y) × (s ≡ u)
     unfit_once f g x y s u h k =
         let first = subst (λ p. IsFirstFailing a p g) (same_value o h.timing k.timing h.timing_is k.timing_is) k.first in
         let e = one_first a h.timing f g h.first first in
         (ap cause.Fails e, h.lines_are ∙ ap fails_line e ∙ sym k.lines_are, h.no_put ∙ sym k.no_put)
 
-    from_once : (c d : Cause) (x y : List ℕ) (s u : Option (List ℕ)) → RoundFromFinds a w o c x s → RoundFromFinds a w o d y u → (c ≡ d) × (x ≡ y) × (s ≡ u)
+    from_once : (c d : Cause) (x y : List ℕ) (s u : Option (List ℕ)) → FromFinds Accepts Refuses a w o c x s → FromFinds Accepts Refuses a w o d y u → (c ≡ d) × (x ≡ y) × (s ≡ u)
     from_once cause.Done cause.Done x y s u h k = let e = plans_once x y h.0 k.0 h.2 k.2 in (refl, e.0, h.1 ∙ ap Some e.1 ∙ sym k.1)
-    from_once cause.Done (cause.Rejected r) x y s u h k = absurd (refused a w k.0.reject k.0.first k.0.kept h.2.certified.accepted)
-    from_once cause.Done (cause.Fails f) x y s u h k = absurd (fails_apart a w o rules h.2.timing k.timing f h.2.certified.timing_is k.timing_is h.2.certified.good k.first)
+    from_once cause.Done (cause.Rejected r) x y s u h k = absurd (clash _ _ k.0 k.1 h.2.certified.accepted)
+    from_once cause.Done (cause.Fails f) x y s u h k = absurd (fails_apart Accepts a w o rules h.2.timing k.timing f h.2.certified.timing_is k.timing_is h.2.certified.good k.first)
     from_once cause.Done (cause.Unplanned e) x y s u h k = absurd (plan_apart e x h.0 h.2 k.first)
     from_once cause.Done d x y s u h k = absurd k
-    from_once (cause.Rejected r) cause.Done x y s u h k = absurd (refused a w h.0.reject h.0.first h.0.kept k.2.certified.accepted)
-    from_once (cause.Rejected r) (cause.Rejected q) x y s u h k = let e = rejects_once whole_bands whole_checked once a w (cause.Rejected r) (cause.Rejected q) x y h.0 k.0 in (e.0, e.1, h.1 ∙ sym k.1)
-    from_once (cause.Rejected r) (cause.Fails f) x y s u h k = absurd (refused a w h.0.reject h.0.first h.0.kept k.accepted)
-    from_once (cause.Rejected r) (cause.Unplanned e) x y s u h k = absurd (refused a w h.0.reject h.0.first h.0.kept (unplanned_accepted a w o e k.first))
+    from_once (cause.Rejected r) cause.Done x y s u h k = absurd (clash _ _ h.0 h.1 k.2.certified.accepted)
+    from_once (cause.Rejected r) (cause.Rejected q) x y s u h k = let e = rejects_once whole_bands whole_checked once a w (cause.Rejected r) (cause.Rejected q) x y h.0 k.0 in (e.0, e.1, h.2 ∙ sym k.2)
+    from_once (cause.Rejected r) (cause.Fails f) x y s u h k = absurd (clash _ _ h.0 h.1 k.accepted)
+    from_once (cause.Rejected r) (cause.Unplanned e) x y s u h k = absurd (clash _ _ h.0 h.1 (unplanned_accepted Accepts a w o e k.first))
     from_once (cause.Rejected r) d x y s u h k = absurd k
-    from_once (cause.Fails f) cause.Done x y s u h k = absurd (fails_apart a w o rules k.2.timing h.timing f k.2.certified.timing_is h.timing_is k.2.certified.good h.first)
-    from_once (cause.Fails f) (cause.Rejected r) x y s u h k = absurd (refused a w k.0.reject k.0.first k.0.kept h.accepted)
+    from_once (cause.Fails f) cause.Done x y s u h k = absurd (fails_apart Accepts a w o rules k.2.timing h.timing f k.2.certified.timing_is h.timing_is k.2.certified.good h.first)
+    from_once (cause.Fails f) (cause.Rejected r) x y s u h k = absurd (clash _ _ k.0 k.1 h.accepted)
     from_once (cause.Fails f) (cause.Fails g) x y s u h k = unfit_once f g x y s u h k
-    from_once (cause.Fails f) (cause.Unplanned e) x y s u h k = absurd (unplans_unfit a w o rules e h.timing f k.first h.timing_is h.first)
+    from_once (cause.Fails f) (cause.Unplanned e) x y s u h k = absurd (unplans_unfit Accepts a w o rules e h.timing f k.first h.timing_is h.first)
     from_once (cause.Fails f) d x y s u h k = absurd k
     from_once (cause.Unplanned e) cause.Done x y s u h k = absurd (plan_apart e y k.0 k.2 h.first)
-    from_once (cause.Unplanned e) (cause.Rejected r) x y s u h k = absurd (refused a w k.0.reject k.0.first k.0.kept (unplanned_accepted a w o e h.first))
-    from_once (cause.Unplanned e) (cause.Fails f) x y s u h k = absurd (unplans_unfit a w o rules e k.timing f h.first k.timing_is k.first)
+    from_once (cause.Unplanned e) (cause.Rejected r) x y s u h k = absurd (clash _ _ k.0 k.1 (unplanned_accepted Accepts a w o e h.first))
+    from_once (cause.Unplanned e) (cause.Fails f) x y s u h k = absurd (unplans_unfit Accepts a w o rules e k.timing f h.first k.timing_is k.first)
     from_once (cause.Unplanned e) (cause.Unplanned f) x y s u h k = let same = unplans_once e f h.first k.first in
         (ap cause.Unplanned same, h.lines_are ∙ ap unplanned_line same ∙ sym k.lines_are, h.no_put ∙ sym k.no_put)
     from_once (cause.Unplanned e) d x y s u h k = absurd k
     from_once c d x y s u h k = absurd h
 
+-- nothing is asked of another street
+abbrev NoOther : Street → Warrant → Type 0
+NoOther a w = Unit {0}
+
 -- what is found of the certificate's own timing is found of it as of any
-pub own_from : (a : Street) (w : Warrant) (c : Cause) (l : List ℕ) (bytes : Option (List ℕ)) → RoundFinds a w c l bytes → RoundFromFinds a w w.timing c l bytes
+own_from : (a : Street) (w : Warrant) (c : Cause) (l : List ℕ) (bytes : Option (List ℕ)) → RoundFinds a w c l bytes → FromFinds IsAccepted NoOther a w w.timing c l bytes
 own_from a w cause.Done l bytes h = h
-own_from a w (cause.Rejected r) l bytes h = h
+own_from a w (cause.Rejected r) l bytes h = (h.0, tt, h.1)
 own_from a w (cause.Unplanned e) l bytes h = h
 own_from a w c l bytes h = absurd h
+
+abbrev OfWidened : Street → Warrant → Type 0
+OfWidened a w = IsRefused (widen a) w
+
+other_from : (a : Street) (w : Warrant) (o : Option TimingRecord) (c : Cause) (l : List ℕ) (bytes : Option (List ℕ)) → RoundFromFinds a w o c l bytes → FromFinds IsBound OfWidened a w o c l bytes
+other_from a w o cause.Done l bytes h = h
+other_from a w o (cause.Rejected r) l bytes h = h
+other_from a w o (cause.Fails f) l bytes h = h
+other_from a w o (cause.Unplanned e) l bytes h = h
+other_from a w o c l bytes h = absurd h
+
+-- no certificate is accepted and refused
+own_clash : RefusedIsNotAccepted → (a : Street) (w : Warrant) (c : Cause) (l : List ℕ) → Rejects whole_bands whole_checked a w c l → NoOther a w → IsAccepted a w → ⊥
+own_clash apart a w c l h other accepted = apart a w h.reject h.first h.kept accepted
+
+other_clash : RefusedIsNotAccepted → (a : Street) (w : Warrant) (c : Cause) (l : List ℕ) → Rejects whole_bands whole_checked a w c l → OfWidened a w → IsBound a w → ⊥
+other_clash apart a w c l h other (inl accepted) = apart a w h.reject h.first h.kept accepted
+other_clash apart a w c l h other (inr accepted) = apart (widen a) w other.why other.first other.kept accepted
+
+-- the moved street has one text
+moved_once : OneText → (way : Way) (a : Street) (c d : Cause) (x y : List ℕ) (s t : Option (List ℕ)) → With (IsMove way a c x) s → With (IsMove way a d y) t → (c ≡ d) × (x ≡ y) × (s ≡ t)
+moved_once one_text way a c d x y s t h k =
+    let text = one_text.same (street_moved way a) h.0 k.0 h.2.text_is.printed k.2.text_is.printed in
+    (h.2.cause_is ∙ sym k.2.cause_is, h.2.lines_are ∙ sym k.2.lines_are, h.1 ∙ ap Some text ∙ sym k.1)
 
 -- of several half-cycle plans that are as wide any may be told
 half_once : OneFirst → OneEnd → (a : Street) (t : TimingRecord) (c d : Cause) (x y : List ℕ) (s u : Option (List ℕ)) → HalfFinds a t c x s → HalfFinds a t d y u
@@ -341,9 +382,9 @@ module _ (one_text : OneText) (one_first : OneFirst) (rules : FailsRulesOut) (ap
   finds_once usage.Bands n output v c d x y s t h k = told_once usage.Bands c d x y s t (bands_once one_first widest finer v.0 v.1.0 c d x y h k)
   finds_once usage.Round n output v c d x y s t h k =
       alike usage.Round output c d x y s t
-      (from_once plan_ends plan_or one_plan v.0 v.1.0 v.1.0.timing one_first rules apart once c d x y s t (own_from v.0 v.1.0 c x s h) (own_from v.0 v.1.0 d y t k))
+      (from_once plan_ends plan_or one_plan IsAccepted NoOther v.0 v.1.0 v.1.0.timing one_first rules (own_clash apart v.0 v.1.0) once c d x y s t (own_from v.0 v.1.0 c x s h) (own_from v.0 v.1.0 d y t k))
   finds_once usage.RoundFrom n output v c d x y s t h k =
-      alike usage.RoundFrom output c d x y s t (from_once plan_ends plan_or one_plan v.0 v.1.0 v.1.1.0 one_first rules apart once c d x y s t h k)
+      alike usage.RoundFrom output c d x y s t (from_once plan_ends plan_or one_plan IsBound OfWidened v.0 v.1.0 v.1.1.0 one_first rules (other_clash apart v.0 v.1.0) once c d x y s t (other_from v.0 v.1.0 v.1.1.0 c x s h) (other_from v.0 v.1.0 v.1.1.0 d y t k))
   finds_once usage.Half n output v c d x y s t h k = elim (half_once one_first ends v.0 v.1.0 c d x y s t h k) [
     | inl e ↦ inl (alike usage.Half output c d x y s t e)
     | inr e ↦ inr e
@@ -352,6 +393,8 @@ module _ (one_text : OneText) (one_first : OneFirst) (rules : FailsRulesOut) (ap
   finds_once usage.Draw n output v c d x y s t h k = alike usage.Draw output c d x y s t (draw_once one_first rules v.0 v.1.0 n.title c d x y s t h k)
   finds_once usage.Help n output v c d x y s t h k = told_once usage.Help c d x y s t (h.0 ∙ sym k.0, h.1 ∙ sym k.1)
   finds_once usage.Version n output v c d x y s t h k = told_once usage.Version c d x y s t (h.0 ∙ sym k.0, h.1 ∙ sym k.1)
+  finds_once usage.Narrow n output v c d x y s t h k = alike usage.Narrow output c d x y s t (moved_once one_text Inwards v.0 c d x y s t h k)
+  finds_once usage.Widen n output v c d x y s t h k = alike usage.Widen output c d x y s t (moved_once one_text Outwards v.0 c d x y s t h k)
   finds_once usage.Make n output v c d x y s t h k = told_once usage.Make c d x y s t (show_once one_text (made_street n.signals n.seed) c d x y h k)
   finds_once usage.Trial n output v c d x y s t h k = (verdict_cause c h.found.verdict h.cause_is, verdict_cause d k.found.verdict k.cause_is)
   finds_once usage.Sweep n output v c d x y s t h k =

@@ -1,5 +1,5 @@
 -- The plan that `round` puts is good, and `hold` accepts it.
-use Rattle.std.proofs.Common.{◌≡◌, ℕ, List, [], ◌∷◌, Option, Some, Ok, refl, sym, ◌∙◌, ap, subst}
+use Rattle.std.proofs.Common.{◌≡◌, ℕ, List, [], ◌∷◌, Option, Some, Ok, inl, inr, refl, sym, ◌∙◌, ap, subst}
 use Rattle.std.specs.Prelude.{IsSome}
 use Rattle.outer_edge.specs.Held.{HoldsExactly}
 use Rattle.outer_edge.specs.Taken.{Appends}
@@ -8,10 +8,15 @@ use Rattle.rational_theory.proofs.Ring.{ring, at, minus, ◌⊕◌}
 use Rattle.progression.specs.Street.{Street}
 use Rattle.progression.specs.TimingRecord.{TimingRecord}
 use Rattle.progression.specs.Good.{Good}
-use Rattle.progression.specs.Best.{weighted_band}
+use Rattle.progression.specs.Best.{weighted_band, Bounded}
+use Rattle.artery_model.specs.Valid.{IsValid}
+use Rattle.speed_steps.specs.Moved.{widen}
+use Rattle.speed_steps.specs.declared.way.Way.TheVariants.{Outwards}
+use Rattle.speed_steps.proofs.Timings.{widen_holds_all, moved_valid}
 use Rattle.search_box.proofs.Streets.{street_of}
 use Rattle.time_space.specs.Failing.{FailsRulesOut}
 use Rattle.certificate_model.specs.Warrants.{Warrant}
+use Rattle.certificate_checker.specs.Accepted.{IsAccepted, limit_of}
 use Rattle.certificate_checker.specs.Laws.{RefusedIsNotAccepted}
 use Rattle.certificate_checker.proofs.Meaning.{accepted_holds}
 use Rattle.plan_text.specs.Spelling.{timing_text}
@@ -23,6 +28,7 @@ use Rattle.run_inputs.specs.declared.reader.Reader.TheVariants.{Description, Tim
 use Rattle.run_commands.specs.Hold.{HoldFinds}
 use Rattle.maxband_run.specs.Run.{Ends}
 use Rattle.run_laws.specs.PlanLaws.{PutsPlan, PutsOwnPlan, PutsOtherPlan, RoundSays, RoundFromSays, PlanIsHeld}
+use Rattle.run_commands.specs.Bound.{IsBound}
 use Rattle.run_commands.specs.Round.{IsCertified, IsRounded}
 use Rattle.run_inputs.specs.declared.cause.Cause.{Cause}
 use Rattle.run_inputs.specs.declared.cause.Cause.TheVariants as cause
@@ -34,18 +40,29 @@ use Rattle.run_laws.proofs.PlansSay.{round_four, round_ten, from_four, from_ten}
 use Rattle.run_laws.proofs.InSeconds.{cycle_told, offset_told}
 use Rattle.run_laws.proofs.Readers.{OneReading}
 
--- no good timing exceeds what an accepted certificate claims
-lost : (a : Street) (w : Warrant) (o : Option TimingRecord) (timing : TimingRecord) (claim band loss : ℚ) → IsCertified a w o timing claim → loss ≡ claim -ℚ band
-    → (s : TimingRecord) → Good a s → weighted_band a s ≤ℚ (band +ℚ loss)
-lost a w o timing claim band loss c e s good =
-    let below : weighted_band a s ≤ℚ claim = claim_bounds a w.claim w.timing claim c.claim_is (accepted_holds a w (street_of a c.valid) c.accepted) s good in
+-- no good timing exceeds what a certificate claims that is accepted so
+abbrev ClaimsBound : (Street → Warrant → Type 0) → Type 0
+ClaimsBound Accepts = (a : Street) (w : Warrant) (x : ℚ) → IsValid a → limit_of w.claim ≡ Some x → Accepts a w → Bounded a x
+
+accepted_bounds : ClaimsBound IsAccepted
+accepted_bounds a w x valid e accepted = claim_bounds a w.claim w.timing x e (accepted_holds a w (street_of a valid) accepted)
+
+-- one of the widened street bounds the street too
+bound_bounds : ClaimsBound IsBound
+bound_bounds a w x valid e (inl accepted) = accepted_bounds a w x valid e accepted
+bound_bounds a w x valid e (inr accepted) = λ s good. accepted_bounds (widen a) w x (moved_valid Outwards a valid) e accepted s (widen_holds_all a s valid good)
+
+lost : (Accepts : Street → Warrant → Type 0) → ClaimsBound Accepts → (a : Street) (w : Warrant) (o : Option TimingRecord) (timing : TimingRecord) (claim band loss : ℚ)
+    → IsCertified Accepts a w o timing claim → loss ≡ claim -ℚ band → (s : TimingRecord) → Good a s → weighted_band a s ≤ℚ (band +ℚ loss)
+lost Accepts bounds a w o timing claim band loss c e s good =
+    let below : weighted_band a s ≤ℚ claim = bounds a w claim c.valid c.claim_is c.accepted s good in
     let whole : claim ≡ band +ℚ loss = ring (at 0) (at 1 ⊕ (at 0 ⊕ minus (at 1))) (claim ∷ band ∷ []) refl ∙ ap (λ l. band +ℚ l) (sym e) in
     subst (λ x. weighted_band a s ≤ℚ x) whole below
 
 -- what is found of a rounded timing, and put
-rounded_put : (before now : Outside) (plan : List ℕ) (a : Street) (w : Warrant) (o : Option TimingRecord) (lines text : List ℕ) (r : IsRounded a w o lines text)
+rounded_put : (Accepts : Street → Warrant → Type 0) → ClaimsBound Accepts → (before now : Outside) (plan : List ℕ) (a : Street) (w : Warrant) (o : Option TimingRecord) (lines text : List ℕ) (r : IsRounded Accepts a w o lines text)
     → HoldsExactly (now.holds plan) text → Appends before.taken now.taken lines → PutsPlan before now a r.timing plan
-rounded_put before now plan a w o lines text r held told = record {
+rounded_put Accepts bounds before now plan a w o lines text r held told = record {
   timing = r.plan.timing;
   seconds = r.plan.seconds;
   offsets = r.plan.offsets.items;
@@ -55,7 +72,7 @@ rounded_put before now plan a w o lines text r held told = record {
   offsets_are = offset_told a r.timing r.plan.timing r.plan.seconds r.plan.offsets.items r.certified.valid r.certified.good r.answer.good r.answer.planned;
   good = r.answer.good;
   best = r.best;
-  lost = lost a w o r.timing r.claim (weighted_band a r.plan.timing) r.plan.loss r.certified r.answer.loss;
+  lost = lost Accepts bounds a w o r.timing r.claim (weighted_band a r.plan.timing) r.plan.loss r.certified r.answer.loss;
   put = subst (λ (x : List ℕ). HoldsExactly (now.holds plan) x) r.written held;
   read_back = subst (λ (x : List ℕ). timing_of x ≡ Ok r.plan.timing) r.written r.read_back;
   told = subst (λ (l : List ℕ). Appends before.taken now.taken l) r.lines_are told;
@@ -75,7 +92,7 @@ module _ (before now : Outside) (artery certificate plan : List ℕ) where
         text = f.read.1.0;
         accepted = r.certified.accepted;
         given_is = r.certified.timing_is;
-        puts = rounded_put before now plan f.values.0 f.values.1.0 f.values.1.0.timing h.0 f.finds.finds.0 r held.0 h.3.written;
+        puts = rounded_put IsAccepted accepted_bounds before now plan f.values.0 f.values.1.0 f.values.1.0.timing h.0 f.finds.finds.0 r held.0 h.3.written;
       }
 
   -- and the description is as it was, where it is another file
@@ -104,7 +121,7 @@ puts_other before now artery certificate other plan f =
       text = f.answer.read.1.0;
       accepted = r.certified.accepted;
       given_is = subst (λ (o : Option TimingRecord). Reads Timed (before.holds other) o) r.certified.timing_is f.answer.read.1.1.0;
-      puts = rounded_put before now plan f.answer.values.0 f.answer.values.1.0 f.answer.values.1.1.0 f.lines k.0 r
+      puts = rounded_put IsBound bound_bounds before now plan f.answer.values.0 f.answer.values.1.0 f.answer.values.1.1.0 f.lines k.0 r
           (is_put before now plan k.0 f.lines f.put f.answer.bytes f.answer.put_is k.1 f.done).0 f.done.written;
     }
 

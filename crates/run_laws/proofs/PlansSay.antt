@@ -12,7 +12,10 @@ use Rattle.half_integer.specs.Answers.{OneEnd}
 use Rattle.half_integer.specs.declared.end.HalfEnd.{HalfEnd}
 use Rattle.second_plan.specs.declared.answer.PlanEnd.{PlanEnd}
 use Rattle.plan_text.specs.Reading.{timing_of}
+use Rattle.certificate_checker.specs.Accepted.{IsAccepted}
 use Rattle.certificate_checker.specs.Laws.{RefusedIsNotAccepted}
+use Rattle.speed_steps.specs.Moved.{widen}
+use Rattle.run_commands.specs.Bound.{IsBound}
 use Rattle.cycle_sweep.specs.declared.row.SweepRow.{SweepRow}
 use Rattle.cycle_sweep.specs.Rows.{IsRow}
 use Rattle.cycle_sweep.specs.Says.{RowsSay}
@@ -31,7 +34,7 @@ use Rattle.run_commands.specs.Checked.{whole_checked}
 use Rattle.run_laws.specs.Laws.{SaysRejected}
 use Rattle.run_laws.specs.PlanLaws.{SaysWidest, SaysNoBase, BandsSay, PutsHalf, SaysNoHalf, SaysHalf, SaysUnmatched, HalfSays, SaysUnplanned}
 use Rattle.run_laws.specs.PlanLaws.{SaysUnplannedFrom, PutsTyped, StopsTyped, SaysMiscounted, SaysTooFine, TimingSays, PutsPicture, SaysUnshaped}
-use Rattle.run_laws.specs.PlanLaws.{SaysFailing, SaysUntimed, DrawSays, SaysCycle, PutsTable, SweepSays}
+use Rattle.run_laws.specs.PlanLaws.{SaysUnbound, SaysFailing, SaysUntimed, DrawSays, SaysCycle, PutsTable, SweepSays}
 use Rattle.run_inputs.specs.Status.{number_of, IsReached}
 use Rattle.run_inputs.specs.declared.cause.Cause.{Cause}
 use Rattle.run_inputs.specs.declared.cause.Cause.TheVariants as cause
@@ -184,7 +187,7 @@ module _ (before now : Outside) (artery certificate plan : List ℕ) where
     reason = reason;
     description = k.answer.read.0;
     text = k.answer.read.1.0;
-    accepted = unplanned_accepted k.answer.values.0 k.answer.values.1.0 k.answer.values.1.0.timing reason k.answer.finds.finds.first;
+    accepted = unplanned_accepted IsAccepted k.answer.values.0 k.answer.values.1.0 k.answer.values.1.0.timing reason k.answer.finds.finds.first;
     first = k.answer.finds.finds.first;
     cause_is = refl;
     kept = found_keeps before now (ask.round artery certificate plan) (cause.Unplanned reason) (λ v. v) k k.answer.finds.answer;
@@ -198,10 +201,11 @@ module _ (before now : Outside) (artery certificate plan : List ℕ) where
 -- ---- round-from
 module _ (before now : Outside) (artery certificate other plan : List ℕ) where
   pub from_four : RefusedIsNotAccepted → FailsRulesOut → (c : Cause) → number_of c ≡ 4 → Found before now (ask.round_from artery certificate other plan) c
-      → SaysRejected whole_bands whole_checked before now artery certificate c ⊎ SaysFailing before now artery other c
+      → SaysUnbound before now artery certificate c ⊎ SaysFailing before now artery other c
   from_four apart rules (cause.Rejected r) e k =
       let h = k.answer.finds.finds.0 in
-      inl (record {
+      let other = k.answer.finds.finds.1 in
+      inl (record { rejected = record {
         street = k.answer.values.0;
         warrant = k.answer.values.1.0;
         reject = h.reject;
@@ -211,7 +215,7 @@ module _ (before now : Outside) (artery certificate other plan : List ℕ) where
         not_accepted = apart k.answer.values.0 k.answer.values.1.0 h.reject h.first h.kept;
         cause_is = h.cause_is;
         kept = found_keeps before now (ask.round_from artery certificate other plan) (cause.Rejected r) (λ v. v) k k.answer.finds.answer;
-      })
+      }; not_widened = apart (widen k.answer.values.0) k.answer.values.1.0 other.why other.first other.kept })
   from_four apart rules (cause.Fails f) e k =
       let h = k.answer.finds.finds in
       inr (record {
@@ -238,7 +242,7 @@ module _ (before now : Outside) (artery certificate other plan : List ℕ) where
     description = k.answer.read.0;
     text = k.answer.read.1.0;
     given_is = k.answer.read.1.1.0;
-    accepted = unplanned_accepted k.answer.values.0 k.answer.values.1.0 k.answer.values.1.1.0 reason k.answer.finds.finds.first;
+    accepted = unplanned_accepted IsBound k.answer.values.0 k.answer.values.1.0 k.answer.values.1.1.0 reason k.answer.finds.finds.first;
     first = k.answer.finds.finds.first;
     cause_is = refl;
     kept = found_keeps before now (ask.round_from artery certificate other plan) (cause.Unplanned reason) (λ v. v) k k.answer.finds.answer;

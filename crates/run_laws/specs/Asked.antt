@@ -28,6 +28,12 @@ links artery certificate limit = asked usage.Links (artery ∷ []) (Some certifi
 abbrev pub renew : List ℕ → List ℕ → Question
 renew certificate new = asked usage.Renew (certificate ∷ []) (Some new) unsaid
 
+abbrev pub narrow : List ℕ → List ℕ → Question
+narrow artery new = asked usage.Narrow (artery ∷ []) (Some new) unsaid
+
+abbrev pub widen : List ℕ → List ℕ → Question
+widen artery new = asked usage.Widen (artery ∷ []) (Some new) unsaid
+
 abbrev pub bands : List ℕ → List ℕ → Question
 bands artery timing = asked usage.Bands (artery ∷ timing ∷ []) None unsaid
 

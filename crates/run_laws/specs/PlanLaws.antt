@@ -22,6 +22,10 @@ use Rattle.timing_measures.specs.Measures.{cycle_seconds, offset}
 use Rattle.second_plan.specs.Planned.{IsPlanned, IsBestOfOffsets}
 use Rattle.second_plan.specs.declared.answer.PlanEnd.{PlanEnd}
 use Rattle.artery_model.specs.declared.kind.Refusal.{Refusal}
+use Rattle.speed_steps.specs.Moved.{street_moved, narrow, widen}
+use Rattle.speed_steps.specs.declared.way.Way.{Way}
+use Rattle.speed_steps.specs.declared.way.Way.TheVariants.{Inwards, Outwards}
+use Rattle.description_reader.specs.Described.{Described}
 use Rattle.description_reader.specs.Typed.{Typed}
 use Rattle.typed_plan.specs.Ends.{IsTimingOf, Refuses}
 use Rattle.typed_plan.specs.declared.timing.Measured.{Measured}
@@ -46,7 +50,9 @@ use Rattle.run_commands.specs.Bands.{widest_line}
 use Rattle.run_commands.specs.Hold.{IsJudged, verdict_line}
 use Rattle.run_commands.specs.Typed.{measured_lines}
 use Rattle.run_commands.specs.Half.{half_lines}
+use Rattle.run_commands.specs.Bound.{IsBound}
 use Rattle.run_commands.specs.Round.{plan_lines, Unplans}
+use Rattle.run_commands.specs.Narrow.{moved_lines}
 use Rattle.run_commands.specs.Draw.{drawn_lines}
 use Rattle.run_commands.specs.Sweep.{rows_line}
 use Rattle.run_commands.specs.Sought.{whole_bands}
@@ -167,7 +173,7 @@ pub record SaysUnplanned (before now : Outside) (artery certificate : List ℕ) 
   pub description : Reads Description (before.holds artery) street
   pub text : Reads Certificate (before.holds certificate) warrant
   pub accepted : IsAccepted street warrant
-  pub first : Unplans street warrant warrant.timing reason
+  pub first : Unplans IsAccepted street warrant warrant.timing reason
   pub cause_is : c ≡ cause.Unplanned reason
   pub kept : SameFiles before.holds now.holds
 
@@ -189,18 +195,19 @@ pub record SaysFailing (before now : Outside) (artery timed : List ℕ) (c : Cau
   pub cause_is : c ≡ cause.Fails failing
   pub kept : SameFiles before.holds now.holds
 
--- `round-from` with status 0: a plan of the other timing is put, and the certificate, from whose claim the loss is counted, is accepted
+-- `round-from` with status 0: a plan of the other timing is put, and the certificate, from whose claim the loss is counted, is accepted for the artery, or for the artery with
+-- its limits of speed moved outwards
 pub record PutsOtherPlan (before now : Outside) (artery certificate other plan : List ℕ) : Type 0 where
   pub street : Street
   pub warrant : Warrant
   pub given : TimingRecord
   pub description : Reads Description (before.holds artery) street
   pub text : Reads Certificate (before.holds certificate) warrant
-  pub accepted : IsAccepted street warrant
+  pub accepted : IsBound street warrant
   pub given_is : Reads Timed (before.holds other) (Some given)
   pub puts : PutsPlan before now street given plan
 
--- with status 10: the certificate is accepted, no plan is made of the other timing, for this first reason, and no file has changed
+-- with status 10: the certificate is accepted so, no plan is made of the other timing, for this first reason, and no file has changed
 pub record SaysUnplannedFrom (before now : Outside) (artery certificate other : List ℕ) (c : Cause) : Type 0 where
   pub street : Street
   pub warrant : Warrant
@@ -209,15 +216,20 @@ pub record SaysUnplannedFrom (before now : Outside) (artery certificate other : 
   pub description : Reads Description (before.holds artery) street
   pub text : Reads Certificate (before.holds certificate) warrant
   pub given_is : Reads Timed (before.holds other) given
-  pub accepted : IsAccepted street warrant
-  pub first : Unplans street warrant given reason
+  pub accepted : IsBound street warrant
+  pub first : Unplans IsBound street warrant given reason
   pub cause_is : c ≡ cause.Unplanned reason
   pub kept : SameFiles before.holds now.holds
+
+-- with status 4, where it is no rule that fails: neither the artery nor the widened one accepts the certificate, and no file has changed
+pub record SaysUnbound (before now : Outside) (artery certificate : List ℕ) (c : Cause) : Type 0 where
+  pub rejected : SaysRejected whole_bands whole_checked before now artery certificate c
+  pub not_widened : ¬ IsAccepted (widen rejected.street) rejected.warrant
 
 abbrev pub RoundFromSays : Type 0
 RoundFromSays = (before now : Outside) (artery certificate other plan : List ℕ) (c : Cause) → Ends before now (ask.round_from artery certificate other plan) c
     → (number_of c ≡ 0 → PutsOtherPlan before now artery certificate other plan)
-    × (number_of c ≡ 4 → SaysRejected whole_bands whole_checked before now artery certificate c ⊎ SaysFailing before now artery other c)
+    × (number_of c ≡ 4 → SaysUnbound before now artery certificate c ⊎ SaysFailing before now artery other c)
     × (number_of c ≡ 10 → SaysUnplannedFrom before now artery certificate other c)
 
 -- A run of `hold` over the same description and the file that `round` put accepts it, unless a fault or want of memory ends it: where these are two files that tell
@@ -226,6 +238,33 @@ abbrev pub PlanIsHeld : Type 0
 PlanIsHeld = (before between now : Outside) (artery certificate plan : List ℕ) (c d : Cause)
     → artery ≢ plan → IsSome (before.holds artery) → IsSome (between.holds plan) → IfSome (between.holds plan) (λ bytes. length bytes ≤ most_bytes Timing)
     → number_of c ≡ 0 → Ends before between (ask.round artery certificate plan) c → IsReached d → Ends between now (ask.hold artery plan) d → d ≡ cause.Done
+
+-- ---- narrow and widen
+-- with status 0: the file that is put holds, where it is told, a text that is described as the street with its limits of speed moved, and what was told says how
+pub record PutsMoved (way : Way) (before now : Outside) (artery new : List ℕ) (a : Street) : Type 0 where
+  pub description : Reads Description (before.holds artery) a
+  pub text : List ℕ
+  pub put : HoldsExactly (now.holds new) text
+  pub described : Described text (street_moved way a)
+  pub told : Appends before.taken now.taken (moved_lines way a)
+
+-- `narrow`: and every timing that is good for that street is good for the first file's
+pub record SaysNarrowed (before now : Outside) (artery new : List ℕ) : Type 0 where
+  pub street : Street
+  pub puts : PutsMoved Inwards before now artery new street
+  pub within : (t : TimingRecord) → Good (narrow street) t → Good street t
+
+abbrev pub NarrowSays : Type 0
+NarrowSays = (before now : Outside) (artery new : List ℕ) (c : Cause) → Ends before now (ask.narrow artery new) c → number_of c ≡ 0 → SaysNarrowed before now artery new
+
+-- `widen`: and every good timing of the first file's street is good for that street
+pub record SaysWidened (before now : Outside) (artery new : List ℕ) : Type 0 where
+  pub street : Street
+  pub puts : PutsMoved Outwards before now artery new street
+  pub holds_all : (t : TimingRecord) → Good street t → Good (widen street) t
+
+abbrev pub WidenSays : Type 0
+WidenSays = (before now : Outside) (artery new : List ℕ) (c : Cause) → Ends before now (ask.widen artery new) c → number_of c ≡ 0 → SaysWidened before now artery new
 
 -- ---- timing
 -- `timing` with status 0: the file that is put holds, where it is told, the text of the timing of the typed plan, whichever rules it breaks, and is read back; its bands and

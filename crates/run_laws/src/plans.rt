@@ -1,6 +1,6 @@
 //! The laws of plans, bands, pictures and tables.
 
-ghost use Rattle.run_laws.specs.PlanLaws.{BandsSay, HalfSays, RoundSays, RoundFromSays, TimingSays, TimingIsBounded, DrawSays};
+ghost use Rattle.run_laws.specs.PlanLaws.{BandsSay, HalfSays, RoundSays, RoundFromSays, NarrowSays, WidenSays, TimingSays, TimingIsBounded, DrawSays};
 ghost use Rattle.run_laws.specs.PlanLaws.{SweepSays, PlanIsHeld};
 
 /// A law over the definitions: after status 0 of `bands` the widest bands on the timing's offsets were printed, and after 4 a rule
@@ -30,7 +30,8 @@ pub fn law_round_says()
 
 /// A law over the definitions: after status 0 of `round-from` the file that it put holds the text of a timing that is good on the described
 /// artery and, on its grid, the best with its offsets, and no good timing is better by more than the printed loss. Its cycle and offsets,
-/// which are printed, are those of the other timing, rounded to seconds. After 4 the certificate isn't accepted, or the rule that the
+/// which are printed, are those of the other timing, rounded to seconds. After 4 the certificate is accepted neither for the artery nor for the artery with its
+/// limits of speed moved outwards, or the rule that the
 /// cause names fails, and after 10 no plan is made of the other timing; no file changed.
 pub fn law_round_from_says()
     ensures { RoundFromSays }
@@ -38,6 +39,18 @@ pub fn law_round_from_says()
     certificate_checker::law_accepted_or_refused();
     time_space::law_fails_rules_out();
 }
+
+/// A law over the definitions: after status 0 of `narrow` the file that it put holds the text of the described street with its limits of speed moved
+/// inwards, and every timing that is good for that is good for the street.
+pub fn law_narrow_says()
+    ensures { NarrowSays }
+{}
+
+/// A law over the definitions: after status 0 of `widen` the file that it put holds the text of the described street with its limits of speed moved
+/// outwards, and every good timing of the street is good for that.
+pub fn law_widen_says()
+    ensures { WidenSays }
+{}
 
 /// A law over the definitions: after status 0 of `timing` the file that it put holds the text of the timing of the typed plan, whichever
 /// rules it breaks; its bands and its weighted band were printed, and then the first rule that it breaks, or that it holds. After 3 a file

@@ -17,12 +17,14 @@ use Rattle.progression.specs.declared.parts.Dir.{Dir}
 use Rattle.progression.specs.declared.parts.Dir.TheVariants.{Outbound, Inbound}
 use Rattle.artery_model.specs.Limits.{at_most}
 use Rattle.artery_model.specs.Valid.{IsValid, IsLink, IsSpeeds}
+use Rattle.artery_model.proofs.Validity.{valid_of}
 use Rattle.artery_parts.proofs.Quantities.{quantity_is, order_is}
 use Rattle.speed_steps.specs.Moved.{is_speed, are_limits, moved, link_moved, street_moved, narrow, widen}
 use Rattle.speed_steps.specs.Laws.{NarrowIsWithin, WidenHoldsAll, AreNear, RunsStayNear}
 use Rattle.speed_steps.specs.declared.way.Way.{Way}
 use Rattle.speed_steps.specs.declared.way.Way.TheVariants.{Inwards, Outwards}
 use Rattle.speed_steps.proofs.Tests.{both_is}
+use Rattle.speed_steps.proofs.Validity.{stays_valid}
 use Rattle.speed_steps.proofs.Moves.{Moves, IsSlower, IsFaster, IsMoved, moved_is}
 
 -- ---- a street that has looser limits and else the same links
@@ -148,3 +150,7 @@ narrow_is_within a t valid g = good_along a.head a.signals (narrow a).links a.li
 
 pub widen_holds_all : WidenHoldsAll
 widen_holds_all a t valid g = good_along a.head a.signals a.links (widen a).links t (widen_looser a valid) g
+
+-- the moved street is valid too
+pub moved_valid : (way : Way) (a : Street) → IsValid a → IsValid (street_moved way a)
+moved_valid way a valid = valid_of (street_moved way a) (stays_valid way a valid.no_fault)

@@ -1,4 +1,4 @@
-//! Tests of the edge, of streets and of timings: `outer_edge`, `artery_model`, `search_box`, `time_space`, `band_measure`, `half_integer`,
+//! Tests of the edge, of streets and of timings: `outer_edge`, `artery_model`, `speed_steps`, `search_box`, `time_space`, `band_measure`, `half_integer`,
 //! `second_plan` and `diagram_draw`, through what is public of them.
 #![tactic(auto)]
 

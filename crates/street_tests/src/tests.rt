@@ -8,4 +8,5 @@ mod half_integer_tests;
 mod outer_edge_tests;
 mod search_box_tests;
 mod second_plan_tests;
+mod speed_steps_tests;
 mod time_space_tests;
