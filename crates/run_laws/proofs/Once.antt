@@ -382,9 +382,12 @@ module _ (one_text : OneText) (one_first : OneFirst) (rules : FailsRulesOut) (ap
   finds_once usage.Bands n output v c d x y s t h k = told_once usage.Bands c d x y s t (bands_once one_first widest finer v.0 v.1.0 c d x y h k)
   finds_once usage.Round n output v c d x y s t h k =
       alike usage.Round output c d x y s t
-      (from_once plan_ends plan_or one_plan IsAccepted NoOther v.0 v.1.0 v.1.0.timing one_first rules (own_clash apart v.0 v.1.0) once c d x y s t (own_from v.0 v.1.0 c x s h) (own_from v.0 v.1.0 d y t k))
+      (from_once plan_ends plan_or one_plan IsAccepted NoOther v.0 v.1.0 v.1.0.timing one_first rules (own_clash apart v.0 v.1.0) once c d x y s t
+      (own_from v.0 v.1.0 c x s h) (own_from v.0 v.1.0 d y t k))
   finds_once usage.RoundFrom n output v c d x y s t h k =
-      alike usage.RoundFrom output c d x y s t (from_once plan_ends plan_or one_plan IsBound OfWidened v.0 v.1.0 v.1.1.0 one_first rules (other_clash apart v.0 v.1.0) once c d x y s t (other_from v.0 v.1.0 v.1.1.0 c x s h) (other_from v.0 v.1.0 v.1.1.0 d y t k))
+      alike usage.RoundFrom output c d x y s t
+      (from_once plan_ends plan_or one_plan IsBound OfWidened v.0 v.1.0 v.1.1.0 one_first rules (other_clash apart v.0 v.1.0) once c d x y s t
+      (other_from v.0 v.1.0 v.1.1.0 c x s h) (other_from v.0 v.1.0 v.1.1.0 d y t k))
   finds_once usage.Half n output v c d x y s t h k = elim (half_once one_first ends v.0 v.1.0 c d x y s t h k) [
     | inl e ↦ inl (alike usage.Half output c d x y s t e)
     | inr e ↦ inr e

@@ -60,7 +60,8 @@ lost Accepts bounds a w o timing claim band loss c e s good =
     subst (λ x. weighted_band a s ≤ℚ x) whole below
 
 -- what is found of a rounded timing, and put
-rounded_put : (Accepts : Street → Warrant → Type 0) → ClaimsBound Accepts → (before now : Outside) (plan : List ℕ) (a : Street) (w : Warrant) (o : Option TimingRecord) (lines text : List ℕ) (r : IsRounded Accepts a w o lines text)
+rounded_put : (Accepts : Street → Warrant → Type 0) → ClaimsBound Accepts → (before now : Outside) (plan : List ℕ) (a : Street) (w : Warrant) (o : Option TimingRecord) (lines text : List ℕ)
+    (r : IsRounded Accepts a w o lines text)
     → HoldsExactly (now.holds plan) text → Appends before.taken now.taken lines → PutsPlan before now a r.timing plan
 rounded_put Accepts bounds before now plan a w o lines text r held told = record {
   timing = r.plan.timing;

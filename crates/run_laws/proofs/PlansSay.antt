@@ -205,17 +205,20 @@ module _ (before now : Outside) (artery certificate other plan : List ℕ) where
   from_four apart rules (cause.Rejected r) e k =
       let h = k.answer.finds.finds.0 in
       let other = k.answer.finds.finds.1 in
-      inl (record { rejected = record {
-        street = k.answer.values.0;
-        warrant = k.answer.values.1.0;
-        reject = h.reject;
-        description = k.answer.read.0;
-        text = k.answer.read.1.0;
-        first = h.first;
-        not_accepted = apart k.answer.values.0 k.answer.values.1.0 h.reject h.first h.kept;
-        cause_is = h.cause_is;
-        kept = found_keeps before now (ask.round_from artery certificate other plan) (cause.Rejected r) (λ v. v) k k.answer.finds.answer;
-      }; not_widened = apart (widen k.answer.values.0) k.answer.values.1.0 other.why other.first other.kept })
+      inl (record {
+        rejected = record {
+          street = k.answer.values.0;
+          warrant = k.answer.values.1.0;
+          reject = h.reject;
+          description = k.answer.read.0;
+          text = k.answer.read.1.0;
+          first = h.first;
+          not_accepted = apart k.answer.values.0 k.answer.values.1.0 h.reject h.first h.kept;
+          cause_is = h.cause_is;
+          kept = found_keeps before now (ask.round_from artery certificate other plan) (cause.Rejected r) (λ v. v) k k.answer.finds.answer;
+        };
+        not_widened = apart (widen k.answer.values.0) k.answer.values.1.0 other.why other.first other.kept;
+      })
   from_four apart rules (cause.Fails f) e k =
       let h = k.answer.finds.finds in
       inr (record {

@@ -119,7 +119,9 @@ module _ (units : Units) (length : ℕ) (some : 1 ≤ length) where
     pub moves : Moves way units length p q
 
   both_is : (way : Way) (p q : Pair) → both_moved way units length p ≡ Some q → IsMoved way p q
-  both_is way p q e = found (at_step way units length p) are_limits (IsTried units) (IsMoved way p) (λ s t h. record { limits = h; moves = step_moves way p s t h }) (steps units) (each_tried units) q e
+  both_is way p q e =
+      found (at_step way units length p) are_limits (IsTried units) (IsMoved way p) (λ s t h. record { limits = h; moves = step_moves way p s t h })
+      (steps units) (each_tried units) q e
 
   -- ---- each by itself
   -- a limit that stays, or moves
@@ -163,8 +165,10 @@ module _ (units : Units) (length : ℕ) (some : 1 ≤ length) where
   each_is : (p q : Pair) → are_limits p ≡ true → each_moved units length p ≡ Some q → IsMoved Outwards p q
   each_is p q h e =
       with_is p q _ _ h
-      (λ w f. found (slower units length p.least) is_speed (IsTried units) (λ w. (is_speed w ≡ true) × IsSlower units length p.least w) (λ s t k. (k, slower_is p.least s t k)) (steps units) (each_tried units) w f)
-      (λ w f. found (faster units length p.most) is_speed (IsTried units) (λ w. (is_speed w ≡ true) × IsFaster units length p.most w) (λ s t k. (k, faster_is p.most s t k)) (steps units) (each_tried units) w f)
+      (λ w f. found (slower units length p.least) is_speed (IsTried units) (λ w. (is_speed w ≡ true) × IsSlower units length p.least w) (λ s t k. (k, slower_is p.least s t k))
+      (steps units) (each_tried units) w f)
+      (λ w f. found (faster units length p.most) is_speed (IsTried units) (λ w. (is_speed w ≡ true) × IsFaster units length p.most w) (λ s t k. (k, faster_is p.most s t k))
+      (steps units) (each_tried units) w f)
       e
 
   -- ---- the move

@@ -59,8 +59,8 @@ module _ (step : ℚ) (above : whole (pos 0) <ℚ step) where
 
   pub shorter_near : (run : ℚ) → run <ℚ (shorter step run +ℚ step)
   shorter_near run = not-≤ℚ run (shorter step run +ℚ step) (λ h.
-    below_next (floor_ℚ (run /ℚ step))
-    (floor_most (floor_ℚ (run /ℚ step) +ℤ pos 1) run (subst (λ t. t ≤ℚ run) (sym (next (floor_ℚ (run /ℚ step)))) h)))
+      below_next (floor_ℚ (run /ℚ step))
+      (floor_most (floor_ℚ (run /ℚ step) +ℤ pos 1) run (subst (λ t. t ≤ℚ run) (sym (next (floor_ℚ (run /ℚ step)))) h)))
 
   -- the multiple before
   last : (n : ℤ) → whole n *ℚ step ≡ whole (n +ℤ negsuc 0) *ℚ step +ℚ step
@@ -68,9 +68,9 @@ module _ (step : ℚ) (above : whole (pos 0) <ℚ step) where
 
   pub longer_near : (run : ℚ) → longer step run <ℚ (run +ℚ step)
   longer_near run = not-≤ℚ (longer step run) (run +ℚ step) (λ h.
-    let n = ceil_ℚ (run /ℚ step) in
-    above_last n
-    (ceil_least (n +ℤ negsuc 0) run (less_both run (whole (n +ℤ negsuc 0) *ℚ step) step (subst (λ t. (run +ℚ step) ≤ℚ t) (last n) h))))
+      let n = ceil_ℚ (run /ℚ step) in
+      above_last n
+      (ceil_least (n +ℤ negsuc 0) run (less_both run (whole (n +ℤ negsuc 0) *ℚ step) step (subst (λ t. (run +ℚ step) ≤ℚ t) (last n) h))))
 
   -- more than the run itself, also where the run is less
   pub same_near : (run : ℚ) → run <ℚ (run +ℚ step)

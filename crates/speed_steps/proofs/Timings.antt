@@ -59,14 +59,16 @@ module _ (h : Head) (s : List Signal) (l m : List Link) (t : TimingRecord) where
     patterns = b.patterns;
     cycle_least = b.cycle_least;
     cycle_most = b.cycle_most;
-    fast = λ d i at. ≤ℚ_trans (run_low loose d i *ℚ number t.grid) (run_low tight d i *ℚ number t.grid) (number (run t d i)) (≤ℚ-*ℚ (run_low loose d i) (run_low tight d i) (number t.grid) (k.low d i at) grid_least) (b.fast d i at);
-    slow = λ d i at. ≤ℚ_trans (number (run t d i)) (run_high tight d i *ℚ number t.grid) (run_high loose d i *ℚ number t.grid) (b.slow d i at) (≤ℚ-*ℚ (run_high tight d i) (run_high loose d i) (number t.grid) (k.high d i at) grid_least);
+    fast = λ d i at. ≤ℚ_trans (run_low loose d i *ℚ number t.grid) (run_low tight d i *ℚ number t.grid) (number (run t d i))
+        (≤ℚ-*ℚ (run_low loose d i) (run_low tight d i) (number t.grid) (k.low d i at) grid_least) (b.fast d i at);
+    slow = λ d i at. ≤ℚ_trans (number (run t d i)) (run_high tight d i *ℚ number t.grid) (run_high loose d i *ℚ number t.grid) (b.slow d i at)
+        (≤ℚ-*ℚ (run_high tight d i) (run_high loose d i) (number t.grid) (k.high d i at) grid_least);
     rise = λ d i at next.
-      subst (λ o. IfSome o (λ (c : Pair). pace_change loose t d i ≤ℚ (c.most *ℚ number t.grid))) (change_same k d i at)
-      (subst (λ x. IfSome (change tight d i) (λ (c : Pair). x ≤ℚ (c.most *ℚ number t.grid))) (pace_same k d i at next) (b.rise d i at next));
+        subst (λ o. IfSome o (λ (c : Pair). pace_change loose t d i ≤ℚ (c.most *ℚ number t.grid))) (change_same k d i at)
+        (subst (λ x. IfSome (change tight d i) (λ (c : Pair). x ≤ℚ (c.most *ℚ number t.grid))) (pace_same k d i at next) (b.rise d i at next));
     drop = λ d i at next.
-      subst (λ o. IfSome o (λ (c : Pair). (c.least *ℚ number t.grid) ≤ℚ pace_change loose t d i)) (change_same k d i at)
-      (subst (λ x. IfSome (change tight d i) (λ (c : Pair). (c.least *ℚ number t.grid) ≤ℚ x)) (pace_same k d i at next) (b.drop d i at next));
+        subst (λ o. IfSome o (λ (c : Pair). (c.least *ℚ number t.grid) ≤ℚ pace_change loose t d i)) (change_same k d i at)
+        (subst (λ x. IfSome (change tight d i) (λ (c : Pair). (c.least *ℚ number t.grid) ≤ℚ x)) (pace_same k d i at next) (b.drop d i at next));
   }
 
   good_along : IsLooser tight loose → Good tight t → Good loose t
@@ -120,10 +122,13 @@ module _ (way : Way) (a : Street) (valid : IsValid a) (i : ℕ) (at : HasLink a 
   high_is : (d : Dir) → seconds a.head.units (distance a d i) (moved way a.head.units (distance a d i) (speed a d i)).least ≡ run_high (street_moved way a) d i
   high_is d = ap₂ (λ n (p : Pair). seconds a.head.units n p.least) (sym (distance_is d)) (sym (speed_is d))
 
-near_by : (way : Way) (a : Street) (valid : IsValid a) (d : Dir) (i : ℕ) (at : HasLink a i) → Moves way a.head.units (distance a d i) (speed a d i) (moved way a.head.units (distance a d i) (speed a d i))
+near_by : (way : Way) (a : Street) (valid : IsValid a) (d : Dir) (i : ℕ) (at : HasLink a i)
+    → Moves way a.head.units (distance a d i) (speed a d i) (moved way a.head.units (distance a d i) (speed a d i))
     → AreNear a.head.units (run_low a d i) (run_low (street_moved way a) d i) × AreNear a.head.units (run_high a d i) (run_high (street_moved way a) d i)
-near_by Inwards a valid d i at m = (subst (AreNear a.head.units (run_low a d i)) (low_is Inwards a valid i at d) m.1.near, subst (AreNear a.head.units (run_high a d i)) (high_is Inwards a valid i at d) m.0.near)
-near_by Outwards a valid d i at m = (subst (AreNear a.head.units (run_low a d i)) (low_is Outwards a valid i at d) m.1.near, subst (AreNear a.head.units (run_high a d i)) (high_is Outwards a valid i at d) m.0.near)
+near_by Inwards a valid d i at m =
+    (subst (AreNear a.head.units (run_low a d i)) (low_is Inwards a valid i at d) m.1.near, subst (AreNear a.head.units (run_high a d i)) (high_is Inwards a valid i at d) m.0.near)
+near_by Outwards a valid d i at m =
+    (subst (AreNear a.head.units (run_low a d i)) (low_is Outwards a valid i at d) m.1.near, subst (AreNear a.head.units (run_high a d i)) (high_is Outwards a valid i at d) m.0.near)
 
 -- ---- the laws
 pub runs_stay_near : RunsStayNear

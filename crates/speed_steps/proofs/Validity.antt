@@ -97,6 +97,6 @@ stays_valid way a h =
     )
 
 -- of any parts that are those of the moved street
-pub passes_moved : (way : Way) (a : Street) (head : Head) (signals : List Signal) (links : List Link) → head ≡ a.head → signals ≡ a.signals → links ≡ map (link_moved way a.head.units) a.links → IsValid a
-    → artery_fault (record { head = head; signals = signals; links = links }) ≡ None
+pub passes_moved : (way : Way) (a : Street) (head : Head) (signals : List Signal) (links : List Link) → head ≡ a.head → signals ≡ a.signals → links ≡ map (link_moved way a.head.units) a.links
+    → IsValid a → artery_fault (record { head = head; signals = signals; links = links }) ≡ None
 passes_moved way a head signals links h s l valid = rw (h, s, l) (stays_valid way a valid.no_fault)

@@ -86,7 +86,13 @@ fn limits(artery: &Artery) -> Result<Pair, Fail> {
 
 fn limits_text(alloc: Global, limits: Pair) -> Result<String, AllocError> {
     let (least, most) = (limits.least, limits.most);
-    format!(in alloc; "{}/{} to {}/{}", least.num(), least.den(), most.num(), most.den())
+    format!(in alloc;
+        "{}/{} to {}/{}",
+        least.num(),
+        least.den(),
+        most.num(),
+        most.den()
+    )
 }
 
 fn moved(alloc: Global, way: Way, artery: &Artery) -> Result<Pair, Fail> {
