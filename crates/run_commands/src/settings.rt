@@ -1,11 +1,14 @@
 //! What the words say that name no file.
 
 ghost use Rattle.std.specs.Prelude.{◌≡◌, option_map, map, string_bytes};
-ghost use Rattle.run_commands.specs.Settings.{settings_view, unsaid, said, may_be_left_out, takes_all, cycles_said, all_said};
+ghost use Rattle.run_commands.specs.Settings.{setting_label, settings_view, unsaid};
+ghost use Rattle.run_commands.specs.Words.{said, may_be_left_out, takes_all, cycles_said, all_said};
 
 use artery_model::bounds::LEAST_SIGNALS;
 use artery_model::is_name;
-use run_inputs::{USUAL_WORK, are_cycles, limit_in, seed_in, signals_in};
+use crate::request::named;
+use crate::table::{USAGES, Usage};
+use run_inputs::{Label, USUAL_WORK, are_cycles, limit_in, seed_in, signals_in};
 
 /// What a word that names no file says.
 #[derive(Clone, Copy)]
@@ -22,6 +25,61 @@ pub enum Setting {
     Cycles,
     /// The title of a picture, which may be left out at the end.
     Title,
+    /// The word of a command, which may be left out at the end.
+    Word,
+}
+
+pub const SIGNALS: Label = (
+    "SIGNALS",
+    "how many signals, 2 to 16",
+);
+
+pub const SEED: Label = (
+    "SEED",
+    "a number from 0 to 18446744073709551615",
+);
+
+pub const LIMIT: Label = (
+    "WORK",
+    "the most units of work of a search, 1 to 18446744073709551615, or all for no limit",
+);
+
+pub const WORK: Label = (
+    "[WORK]",
+    "the same as a choice, 100000 where it is left out",
+);
+
+pub const CYCLES: Label = (
+    "CYCLE ..",
+    "1 to 100 cycles in seconds, each a whole number, a decimal or a fraction",
+);
+
+pub const TITLE: Label = (
+    "[TITLE]",
+    "a title for the picture, 1 to 60 bytes without control characters",
+);
+
+pub const WORD: Label = (
+    "[WORD]",
+    "the first word of a command",
+);
+
+impl Setting {
+    /// What stands for such a word in a usage, and what it is.
+    pub fn label(self) -> Label
+        ensures name { result.0.now ≡ (setting_label self).name }
+        ensures text { result.1.now ≡ (setting_label self).text }
+    {
+        match self {
+            Setting::Signals => SIGNALS,
+            Setting::Seed => SEED,
+            Setting::Limit => LIMIT,
+            Setting::Work => WORK,
+            Setting::Cycles => CYCLES,
+            Setting::Title => TITLE,
+            Setting::Word => WORD,
+        }
+    }
 }
 
 /// What the words say that name no file. What a command's row doesn't ask for is as where no word says it.
@@ -35,6 +93,8 @@ pub struct Settings<'a> {
     /// The words that spell the cycles of a sweep.
     pub cycles: &'a [String],
     pub title: Option<&'a str>,
+    /// The command that is asked about.
+    pub about: Option<Usage>,
 }
 
 /// Where no word says them.
@@ -47,6 +107,7 @@ pub fn unsaid() -> Settings<'static>
         seed: 0,
         cycles: &[],
         title: None,
+        about: None,
     }
 }
 
@@ -86,6 +147,13 @@ fn said<'a>(kind: Setting, word: &'a str, settings: Settings<'a>) -> Option<Sett
         }
         Setting::Cycles => None,
         Setting::Title => titled(word, settings),
+        Setting::Word => {
+            let usage = named(&USAGES, word)?;
+            Some(Settings {
+                about: Some(usage),
+                ..settings
+            })
+        }
     }
 }
 
@@ -94,7 +162,7 @@ fn may_be_left_out(kind: Setting) -> bool
     ensures { result ≡ may_be_left_out kind }
 {
     match kind {
-        Setting::Work | Setting::Title => true,
+        Setting::Work | Setting::Title | Setting::Word => true,
         Setting::Signals | Setting::Seed | Setting::Limit | Setting::Cycles => false,
     }
 }
@@ -105,7 +173,12 @@ fn takes_all(kind: Setting) -> bool
 {
     match kind {
         Setting::Cycles => true,
-        Setting::Signals | Setting::Seed | Setting::Limit | Setting::Work | Setting::Title => false,
+        Setting::Signals
+        | Setting::Seed
+        | Setting::Limit
+        | Setting::Work
+        | Setting::Title
+        | Setting::Word => false,
     }
 }
 
