@@ -15,7 +15,7 @@ use Rattle.run_inputs.specs.Lines.{refused_line, bad_text_line, too_long_line}
 use Rattle.run_inputs.specs.Reading.{HasFault, IsBadText, Value}
 use Rattle.run_inputs.specs.declared.reader.Reader.{Reader}
 use Rattle.run_inputs.specs.declared.reader.Reader.TheVariants.{Description, Timing, Certificate, LinkCertificate, Timed, TypedPlan}
-use Rattle.run_inputs.specs.Reading.{inputs, most_bytes, IsReadAs, IsRefusedFor, Input, HasBytes, Reads, IsUnread, Values, AreRead, StopsReading, AreTold}
+use Rattle.run_inputs.specs.Reading.{input, inputs, most_bytes, IsReadAs, IsRefusedFor, Input, HasBytes, Reads, IsUnread, Values, AreRead, StopsReading, AreTold}
 use Rattle.run_inputs.specs.Status.{IsReached}
 use Rattle.run_inputs.specs.declared.cause.Cause.{Cause}
 use Rattle.run_inputs.specs.declared.cause.Cause.TheVariants as cause

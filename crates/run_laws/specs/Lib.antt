@@ -1,1 +1,5 @@
 pub mod Asked
+pub mod Laws
+pub mod PlanLaws
+pub mod StopLaws
+pub mod EndLaws

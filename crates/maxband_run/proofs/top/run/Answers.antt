@@ -83,7 +83,7 @@ pub returns-in-Ok-deliver-clause-files : goal.returns-in-Ok-deliver-clause-files
 returns-in-Ok-deliver-clause-files g c =
     let asked : Option Request = option_map commands.view c.request_in-request.result in
     subst (λ (o : Option Request). OthersKept (question o).output (g.F.Files.holds c.args.files.now) (g.F.Files.holds c.deliver.new.files)) c.request_in-request.ensures
-    (others_since (g.F.Files.holds c.args.files.now) (g.F.Files.read_faults c.args.files.now) (g.F.Files.read_faults c.answer_to.new.files) asked
+    (others_since (g.F.Files.holds c.args.files.now) (g.F.Files.read_faults c.args.files.now) (g.F.Files.read_faults c.answer_to.new.files) (question asked)
     c.in-Ok.answer.cause c.in-Ok.answer.lines.items c.put_of-put.result
     (g.F.Files.holds c.args.files.now) (g.F.Files.holds c.answer_to.new.files) (g.F.Files.holds c.deliver.new.files) c.answer_to.ensures.kept.holds
     (with_put _ _ _ asked c.in-Ok.answer _ c.put_of-put.result c.put_of-put.ensures c.output_of.ensures c.in-Ok.ensures.answered.told) c.deliver.ensures.others)
@@ -92,7 +92,7 @@ pub returns-in-Err-Broken-clause-files : goal.returns-in-Err-Broken-clause-files
 returns-in-Err-Broken-clause-files g c =
     let asked : Option Request = option_map commands.view c.request_in-request.result in
     subst (λ (o : Option Request). OthersKept (question o).output (g.F.Files.holds c.args.files.now) (g.F.Files.holds c.deliver.new.files)) c.request_in-request.ensures
-    (others_since (g.F.Files.holds c.args.files.now) (g.F.Files.read_faults c.args.files.now) (g.F.Files.read_faults c.answer_to.new.files) asked
+    (others_since (g.F.Files.holds c.args.files.now) (g.F.Files.read_faults c.args.files.now) (g.F.Files.read_faults c.answer_to.new.files) (question asked)
     c.in-Ok.answer.cause c.in-Ok.answer.lines.items c.put_of-put.result
     (g.F.Files.holds c.args.files.now) (g.F.Files.holds c.answer_to.new.files) (g.F.Files.holds c.deliver.new.files) c.answer_to.ensures.kept.holds
     (with_put _ _ _ asked c.in-Ok.answer _ c.put_of-put.result c.put_of-put.ensures c.output_of.ensures c.in-Ok.ensures.answered.told) c.deliver.ensures.others)
@@ -101,7 +101,7 @@ pub returns-in-Err-Broken-clause-puts : goal.returns-in-Err-Broken-clause-puts
 returns-in-Err-Broken-clause-puts g c =
     let asked : Option Request = option_map commands.view c.request_in-request.result in
     subst (λ (o : Option Request). PutsCounted (question o).output (g.F.Files.put_faults c.args.files.now) (g.F.Files.put_faults c.deliver.new.files)) c.request_in-request.ensures
-    (puts_since_entry (g.F.Files.holds c.args.files.now) (g.F.Files.read_faults c.args.files.now) (g.F.Files.read_faults c.answer_to.new.files) asked
+    (puts_since_entry (g.F.Files.holds c.args.files.now) (g.F.Files.read_faults c.args.files.now) (g.F.Files.read_faults c.answer_to.new.files) (question asked)
     c.in-Ok.answer.cause c.in-Ok.answer.lines.items c.put_of-put.result
     (g.F.Files.put_faults c.args.files.now) (g.F.Files.put_faults c.answer_to.new.files) (g.F.Files.put_faults c.deliver.new.files) c.answer_to.ensures.kept.puts
     (with_put _ _ _ asked c.in-Ok.answer _ c.put_of-put.result c.put_of-put.ensures c.output_of.ensures c.in-Ok.ensures.answered.told) c.deliver.ensures.puts)
@@ -110,7 +110,7 @@ pub returns-clause-files : goal.returns-clause-files
 returns-clause-files g c =
     let asked : Option Request = option_map commands.view c.request_in-request.result in
     subst (λ (o : Option Request). OthersKept (question o).output (g.F.Files.holds c.args.files.now) (g.F.Files.holds c.deliver.new.files)) c.request_in-request.ensures
-    (others_since (g.F.Files.holds c.args.files.now) (g.F.Files.read_faults c.args.files.now) (g.F.Files.read_faults c.answer_to.new.files) asked
+    (others_since (g.F.Files.holds c.args.files.now) (g.F.Files.read_faults c.args.files.now) (g.F.Files.read_faults c.answer_to.new.files) (question asked)
     c.in-Ok.answer.cause c.in-Ok.answer.lines.items c.put_of-put.result
     (g.F.Files.holds c.args.files.now) (g.F.Files.holds c.answer_to.new.files) (g.F.Files.holds c.deliver.new.files) c.answer_to.ensures.kept.holds
     (with_put _ _ _ asked c.in-Ok.answer _ c.put_of-put.result c.put_of-put.ensures c.output_of.ensures c.in-Ok.ensures.answered.told) c.deliver.ensures.others)
@@ -119,7 +119,7 @@ pub returns-clause-puts : goal.returns-clause-puts
 returns-clause-puts g c =
     let asked : Option Request = option_map commands.view c.request_in-request.result in
     subst (λ (o : Option Request). PutsCounted (question o).output (g.F.Files.put_faults c.args.files.now) (g.F.Files.put_faults c.deliver.new.files)) c.request_in-request.ensures
-    (puts_since_entry (g.F.Files.holds c.args.files.now) (g.F.Files.read_faults c.args.files.now) (g.F.Files.read_faults c.answer_to.new.files) asked
+    (puts_since_entry (g.F.Files.holds c.args.files.now) (g.F.Files.read_faults c.args.files.now) (g.F.Files.read_faults c.answer_to.new.files) (question asked)
     c.in-Ok.answer.cause c.in-Ok.answer.lines.items c.put_of-put.result
     (g.F.Files.put_faults c.args.files.now) (g.F.Files.put_faults c.answer_to.new.files) (g.F.Files.put_faults c.deliver.new.files) c.answer_to.ensures.kept.puts
     (with_put _ _ _ asked c.in-Ok.answer _ c.put_of-put.result c.put_of-put.ensures c.output_of.ensures c.in-Ok.ensures.answered.told) c.deliver.ensures.puts)
