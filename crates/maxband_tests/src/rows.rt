@@ -25,7 +25,7 @@ static ROWS: [&str; 18] = [
     "make SIGNALS SEED",
     "trial SIGNALS SEED WORK *",
     "sweep STREET NEW WORK CYCLE ..",
-    "--help",
+    "--help [WORD]",
     "--version",
 ];
 
@@ -48,6 +48,7 @@ fn setting_word(setting: Setting) -> &'static str {
         Setting::Work => " [WORK]",
         Setting::Cycles => " CYCLE ..",
         Setting::Title => " [TITLE]",
+        Setting::Word => " [WORD]",
     }
 }
 

@@ -17,6 +17,7 @@ pub mod Draw
 pub mod Make
 pub mod Settings
 pub mod Rows
+pub mod Pages
 pub mod Help
 pub mod Trial
 pub mod Sweep

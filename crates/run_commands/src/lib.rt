@@ -36,6 +36,7 @@ pub mod hold;
 mod lines;
 pub mod links;
 pub mod make;
+mod page;
 pub mod renew;
 mod request;
 pub mod round;

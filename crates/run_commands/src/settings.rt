@@ -4,10 +4,10 @@ ghost use Rattle.std.specs.Prelude.{◌≡◌, option_map, map, string_bytes};
 ghost use Rattle.run_commands.specs.Settings.{setting_label, settings_view, unsaid};
 ghost use Rattle.run_commands.specs.Words.{said, may_be_left_out, takes_all, cycles_said, all_said};
 
-use artery_model::bounds::LEAST_SIGNALS;
-use artery_model::is_name;
 use crate::request::named;
 use crate::table::{USAGES, Usage};
+use artery_model::bounds::LEAST_SIGNALS;
+use artery_model::is_name;
 use run_inputs::{Label, USUAL_WORK, are_cycles, limit_in, seed_in, signals_in};
 
 /// What a word that names no file says.
@@ -29,15 +29,9 @@ pub enum Setting {
     Word,
 }
 
-pub const SIGNALS: Label = (
-    "SIGNALS",
-    "how many signals, 2 to 16",
-);
+pub const SIGNALS: Label = ("SIGNALS", "how many signals, 2 to 16");
 
-pub const SEED: Label = (
-    "SEED",
-    "a number from 0 to 18446744073709551615",
-);
+pub const SEED: Label = ("SEED", "a number from 0 to 18446744073709551615");
 
 pub const LIMIT: Label = (
     "WORK",
@@ -46,7 +40,7 @@ pub const LIMIT: Label = (
 
 pub const WORK: Label = (
     "[WORK]",
-    "the same as a choice, 100000 where it is left out",
+    "as many units of work at most, 1 to 18446744073709551615, or all for no limit; 100000 where it is left out",
 );
 
 pub const CYCLES: Label = (
@@ -59,10 +53,7 @@ pub const TITLE: Label = (
     "a title for the picture, 1 to 60 bytes without control characters",
 );
 
-pub const WORD: Label = (
-    "[WORD]",
-    "the first word of a command",
-);
+pub const WORD: Label = ("[WORD]", "the first word of a command");
 
 impl Setting {
     /// What stands for such a word in a usage, and what it is.

@@ -1,13 +1,13 @@
 //! The commands, a row each.
 
 ghost use Rattle.std.specs.Prelude.{◌≡◌};
-ghost use Rattle.run_commands.specs.{Rows.{row_view}, Table.{row}};
+ghost use Rattle.run_commands.specs.{Rows.{row_view, page_view}, Table.{row, page}};
 
 use crate::settings::Setting;
 use run_inputs::Reader;
 
 /// A command: its first word, the files that it reads, whether the next word names a file that it may put, what the other words say, whether
-/// any of several best answers may be told, and its line of the help.
+/// any of several best answers may be told, what it does, and what stands for the file that it may put.
 #[derive(Clone, Copy)]
 pub struct Row {
     pub word: &'static str,
@@ -15,7 +15,16 @@ pub struct Row {
     pub puts: bool,
     pub settings: &'static [Setting],
     pub chooses: bool,
-    pub help: &'static str,
+    pub does: &'static str,
+    pub put_name: &'static str,
+}
+
+/// More of a command: what the file is that it may put, what it prints by status, and examples.
+#[derive(Clone, Copy)]
+pub struct Page {
+    pub put: &'static str,
+    pub prints: &'static str,
+    pub examples: &'static str,
 }
 
 #[derive(Clone, Copy)]
@@ -70,7 +79,11 @@ pub type Parts = (
     &'static [Setting],
     bool,
     &'static str,
+    &'static str,
 );
+
+/// Those of a page. They stand apart, since longer parts are dear to prove.
+pub type PageParts = (&'static str, &'static str, &'static str);
 
 pub const SOLVE: Parts = (
     "solve",
@@ -78,7 +91,19 @@ pub const SOLVE: Parts = (
     true,
     &[Setting::Work],
     true,
-    "maxband solve STREET CERT [WORK]              search for a best timing, and put its certificate\n",
+    "search for a best timing, and put its certificate",
+    "CERT",
+);
+
+pub const SOLVE_PAGE: PageParts = (
+    "the certificate of what is found, also where that is a bound or nothing",
+    "0 verdict best, and the report: no good timing is wider, on any grid of time
+1 verdict none: no timing is good
+2 verdict open, and the report: the search stopped, and no good timing is above the bound
+",
+    "maxband solve examples/broadway.toml broadway-certificate.txt
+maxband solve examples/near.toml near-certificate.txt all
+",
 );
 
 pub const CHECK: Parts = (
@@ -87,7 +112,18 @@ pub const CHECK: Parts = (
     false,
     &[],
     false,
-    "maxband check STREET CERT                     check what a certificate claims\n",
+    "check what a certificate claims",
+    "",
+);
+
+pub const CHECK_PAGE: PageParts = (
+    "",
+    "0 accepted best X, accepted none or accepted open bound X ..: what is claimed is so
+4 rejected REASON: it isn't proved
+",
+    "maxband check examples/near.toml examples/near-best.txt
+maxband check examples/near.toml examples/near-weak.txt
+",
 );
 
 pub const BANDS: Parts = (
@@ -96,7 +132,18 @@ pub const BANDS: Parts = (
     false,
     &[],
     false,
-    "maxband bands STREET TIMING                   measure the widest bands on a timing's offsets\n",
+    "measure the widest bands on a timing's offsets",
+    "",
+);
+
+pub const BANDS_PAGE: PageParts = (
+    "",
+    "0 band out X = D first N or no band out, and the same of in: X is a part of the cycle
+4 fails RULE: a rule that speaks of no band
+",
+    "maxband bands examples/market.toml examples/market-good.txt
+maxband bands examples/broadway.toml examples/broadway-today.txt
+",
 );
 
 pub const ROUND: Parts = (
@@ -105,7 +152,19 @@ pub const ROUND: Parts = (
     true,
     &[],
     false,
-    "maxband round STREET CERT NEW                 put a plan in whole seconds of a certified timing\n",
+    "put a plan in whole seconds of a certified timing",
+    "NEW",
+);
+
+pub const ROUND_PAGE: PageParts = (
+    "the timing of the plan",
+    "0 cycle N, a line of each signal and band, weighted X = D and loss X: no good timing is wider by more than the loss
+4 rejected REASON: what the certificate claims isn't proved
+10 no plan ..: why, and nothing is put
+",
+    "maxband round examples/near.toml examples/near-best.txt near-plan.txt
+maxband round examples/near.toml examples/near-renewed.txt near-plan.txt
+",
 );
 
 pub const ROUND_FROM: Parts = (
@@ -114,7 +173,19 @@ pub const ROUND_FROM: Parts = (
     true,
     &[],
     false,
-    "maxband round-from STREET CERT OTHER NEW      put such a plan of another timing, held against a certificate\n",
+    "put such a plan of another timing, held against a certificate",
+    "NEW",
+);
+
+pub const ROUND_FROM_PAGE: PageParts = (
+    "the timing of the plan",
+    "0 the lines of round: no good timing is wider than the plan of FILE by more than the loss
+4 rejected REASON: what the certificate claims isn't proved; fails RULE: the timing of FILE breaks this rule
+10 no plan ..: why, and nothing is put
+",
+    "maxband round-from examples/near.toml examples/near-best.txt examples/near-renewed.txt near-plan.txt
+maxband round-from examples/near.toml examples/near-renewed.txt examples/near-best.txt near-plan.txt
+",
 );
 
 pub const HALF: Parts = (
@@ -123,7 +194,19 @@ pub const HALF: Parts = (
     true,
     &[],
     true,
-    "maxband half STREET TIMING NEW                put the half-cycle plan with the widest equal bands\n",
+    "put the half-cycle plan with the widest equal bands",
+    "NEW",
+);
+
+pub const HALF_PAGE: PageParts = (
+    "the timing of the plan",
+    "0 equal band X = D, and a line of each signal; or no equal band, and nothing is put
+4 fails RULE: a rule that speaks of no band
+11 uneven signal I, unequal link I or ticks N: the timing can have no such plan
+",
+    "maxband half examples/downtown.toml examples/downtown-good.txt downtown-half.txt
+maxband half examples/school.toml examples/school-good.txt school-half.txt
+",
 );
 
 pub const TIMING_OF: Parts = (
@@ -132,7 +215,19 @@ pub const TIMING_OF: Parts = (
     true,
     &[],
     false,
-    "maxband timing STREET PLAN NEW                put the timing of a plan typed in seconds\n",
+    "put the timing of a plan typed in seconds",
+    "NEW",
+);
+
+pub const TIMING_OF_PAGE: PageParts = (
+    "the timing, whichever rules it breaks",
+    "0 the lines of bands, weighted X = D, and holds or fails RULE
+3 refused CountMismatch PLACE: the plan has more or fewer numbers than the street asks for
+11 ticks N: a number of the timing would be 2^80 or more
+",
+    "maxband timing examples/broadway.toml examples/broadway-today.plan broadway-today.txt
+maxband timing examples/measured.toml examples/broadway-today.plan measured-today.txt
+",
 );
 
 pub const DRAW: Parts = (
@@ -141,7 +236,19 @@ pub const DRAW: Parts = (
     true,
     &[Setting::Title],
     false,
-    "maxband draw STREET FILE SVG [TITLE]          put a picture of the timing of a timing or certificate\n",
+    "put a picture of the timing of a timing or certificate",
+    "SVG",
+);
+
+pub const DRAW_PAGE: PageParts = (
+    "the picture",
+    "0 drawn, and fails RULE where the timing breaks a rule
+4 fails shape: the timing has another number of signals
+10 no plan timing: the certificate has none
+",
+    "maxband draw examples/market.toml examples/market-good.txt market.svg
+maxband draw examples/near.toml examples/near-best.txt near.svg 'Church Street'
+",
 );
 
 pub const RENEW: Parts = (
@@ -150,7 +257,17 @@ pub const RENEW: Parts = (
     true,
     &[],
     false,
-    "maxband renew CERT NEW                        put a certificate in the second format\n",
+    "put a certificate in the second format",
+    "NEW",
+);
+
+pub const RENEW_PAGE: PageParts = (
+    "the certificate, in the second format",
+    "0 renewed: whether it proves anything, check says
+",
+    "maxband renew examples/near-best.txt near-renewed.txt
+maxband renew examples/near-renewed.txt near-again.txt
+",
 );
 
 pub const LINKS: Parts = (
@@ -159,7 +276,19 @@ pub const LINKS: Parts = (
     true,
     &[Setting::Work],
     true,
-    "maxband links STREET CERT [WORK]              search for best bands of each link, and put their certificate\n",
+    "search for best bands of each link, and put their certificate",
+    "CERT",
+);
+
+pub const LINKS_PAGE: PageParts = (
+    "the certificate of links of what is found, also where that is a bound or nothing",
+    "0 verdict best, and the report: no good link timing is wider, on any grid of time
+1 verdict none: no link timing is good
+2 verdict open, and the report: the search stopped, and no good link timing is above the bound
+",
+    "maxband links examples/bridge.toml bridge-certificate.txt
+maxband links examples/near.toml near-links.txt all
+",
 );
 
 pub const CHECK_LINKS: Parts = (
@@ -168,7 +297,18 @@ pub const CHECK_LINKS: Parts = (
     false,
     &[],
     false,
-    "maxband check-links STREET CERT               check what a certificate of links claims\n",
+    "check what a certificate of links claims",
+    "",
+);
+
+pub const CHECK_LINKS_PAGE: PageParts = (
+    "",
+    "0 accepted best X, accepted none or accepted open bound X ..: what is claimed is so
+4 rejected REASON: it isn't proved
+",
+    "maxband check-links examples/bridge.toml examples/bridge-links.txt
+maxband check-links examples/near.toml examples/bridge-links.txt
+",
 );
 
 pub const HOLD: Parts = (
@@ -177,7 +317,18 @@ pub const HOLD: Parts = (
     false,
     &[],
     false,
-    "maxband hold STREET TIMING                    test a timing tick by tick\n",
+    "test a timing tick by tick",
+    "",
+);
+
+pub const HOLD_PAGE: PageParts = (
+    "",
+    "0 holds, and weighted X: the timing is good
+4 fails RULE: the first rule that it breaks
+",
+    "maxband hold examples/market.toml examples/market-good.txt
+maxband hold examples/market.toml examples/market-queue.txt
+",
 );
 
 pub const SHOW: Parts = (
@@ -186,7 +337,17 @@ pub const SHOW: Parts = (
     false,
     &[],
     false,
-    "maxband show STREET                           write the canonical description\n",
+    "write the canonical description",
+    "",
+);
+
+pub const SHOW_PAGE: PageParts = (
+    "",
+    "0 the description with every key, in one form
+",
+    "maxband show examples/market.toml
+maxband show examples/valley.toml
+",
 );
 
 pub const MAKE: Parts = (
@@ -195,7 +356,17 @@ pub const MAKE: Parts = (
     false,
     &[Setting::Signals, Setting::Seed],
     false,
-    "maxband make SIGNALS SEED                     write the description of an artery from a seed\n",
+    "write the description of an artery from a seed",
+    "",
+);
+
+pub const MAKE_PAGE: PageParts = (
+    "",
+    "0 the description with every key, in one form
+",
+    "maxband make 8 5
+maxband make 16 0
+",
 );
 
 pub const TRIAL: Parts = (
@@ -204,7 +375,19 @@ pub const TRIAL: Parts = (
     false,
     &[Setting::Signals, Setting::Seed, Setting::Limit],
     true,
-    "maxband trial SIGNALS SEED WORK               search such an artery, and check the certificate\n",
+    "search such an artery, and check the certificate",
+    "",
+);
+
+pub const TRIAL_PAGE: PageParts = (
+    "",
+    "0 the summary with verdict best: no good timing is wider, on any grid of time
+1 the summary with verdict none: no timing is good
+2 the summary with verdict open: the search stopped, and no good timing is above the bound
+",
+    "maxband trial 8 5 100000
+maxband trial 4 7 all
+",
 );
 
 pub const SWEEP: Parts = (
@@ -213,16 +396,36 @@ pub const SWEEP: Parts = (
     true,
     &[Setting::Limit, Setting::Cycles],
     false,
-    "maxband sweep STREET TABLE WORK CYCLE ..      search at each cycle, and put a table\n",
+    "search at each cycle, and put a table",
+    "TABLE",
+);
+
+pub const SWEEP_PAGE: PageParts = (
+    "comma-separated values, a header and a record for each cycle",
+    "0 rows N: of each of the N cycles, whatever its verdict is
+",
+    "maxband sweep examples/broadway.toml broadway-cycles.csv 100000 70 80 90 100
+maxband sweep examples/near.toml near-cycles.csv all 100
+",
 );
 
 pub const HELP: Parts = (
     "--help",
     &[],
     false,
-    &[],
+    &[Setting::Word],
     false,
-    "maxband --help                                write these lines\n",
+    "write these lines, or more of one command",
+    "",
+);
+
+pub const HELP_PAGE: PageParts = (
+    "",
+    "0 a line of each command; or of one command what you read here
+",
+    "maxband --help
+maxband --help solve
+",
 );
 
 pub const VERSION: Parts = (
@@ -231,7 +434,17 @@ pub const VERSION: Parts = (
     false,
     &[],
     false,
-    "maxband --version                             write the versions of the program and of what it reads\n",
+    "write the versions of the program and of what it reads",
+    "",
+);
+
+pub const VERSION_PAGE: PageParts = (
+    "",
+    "0 the version of the program, and those of descriptions, plans, timings and certificates
+",
+    "maxband --version
+maxband --help --version
+",
 );
 
 impl Usage {
@@ -239,7 +452,7 @@ impl Usage {
     pub fn row(self) -> Row
         ensures { row_view result ≡ row self }
     {
-        let (word, reads, puts, settings, chooses, help) = match self {
+        let (word, reads, puts, settings, chooses, does, put_name) = match self {
             Usage::Solve => SOLVE,
             Usage::Check => CHECK,
             Usage::Bands => BANDS,
@@ -265,7 +478,39 @@ impl Usage {
             puts,
             settings,
             chooses,
-            help,
+            does,
+            put_name,
+        }
+    }
+
+    /// Its page.
+    pub fn page(self) -> Page
+        ensures { page_view result ≡ page self }
+    {
+        let (put, prints, examples) = match self {
+            Usage::Solve => SOLVE_PAGE,
+            Usage::Check => CHECK_PAGE,
+            Usage::Bands => BANDS_PAGE,
+            Usage::Round => ROUND_PAGE,
+            Usage::RoundFrom => ROUND_FROM_PAGE,
+            Usage::Half => HALF_PAGE,
+            Usage::TimingOf => TIMING_OF_PAGE,
+            Usage::Draw => DRAW_PAGE,
+            Usage::Renew => RENEW_PAGE,
+            Usage::Links => LINKS_PAGE,
+            Usage::CheckLinks => CHECK_LINKS_PAGE,
+            Usage::Hold => HOLD_PAGE,
+            Usage::Show => SHOW_PAGE,
+            Usage::Make => MAKE_PAGE,
+            Usage::Trial => TRIAL_PAGE,
+            Usage::Sweep => SWEEP_PAGE,
+            Usage::Help => HELP_PAGE,
+            Usage::Version => VERSION_PAGE,
+        };
+        Page {
+            put,
+            prints,
+            examples,
         }
     }
 }

@@ -9,7 +9,7 @@ pub record Label : Type 0 where
   pub text : List ℕ
 
 abbrev Text : Type 0
-Text = record {now : List ℕ}
+Text = record { now : List ℕ }
 
 abbrev pub label : Text × Text → Label
 label p = record { name = p.0.now; text = p.1.now }

@@ -29,7 +29,10 @@ pub const CERTIFICATE: Label = ("CERT", "a certificate of solve, in either forma
 
 pub const LINK_CERTIFICATE: Label = ("CERT", "a certificate of links");
 
-pub const TIMED: Label = ("FILE", "a timing or a certificate of solve, of which the timing is taken");
+pub const TIMED: Label = (
+    "FILE",
+    "a timing or a certificate of solve, of which the timing is taken",
+);
 
 pub const TYPED_PLAN: Label = ("PLAN", "a plan typed in seconds");
 
