@@ -106,7 +106,8 @@ all_told before now word words asked c h e k =
 abbrev asked_about : Option Usage → Option Request
 asked_about o = option_map (request usage.Help [] None) (option_and_then (all_said [] []) (option_map (λ u. record unsaid { about = Some u }) o))
 
-one_about : (before now : Outside) (word : List ℕ) (c : Cause) (o : Option Usage) → named USAGES word ≡ o → Ends before now (question (asked_about o)) c → number_of c ≡ 0 → TellsCommand before now word
+one_about : (before now : Outside) (word : List ℕ) (c : Cause) (o : Option Usage) → named USAGES word ≡ o
+    → Ends before now (question (asked_about o)) c → number_of c ≡ 0 → TellsCommand before now word
 one_about before now word c None n h e = let f = found_done before now (question None) c e h in let no = f.answer.finds.0 in absurd cc
 one_about before now word c (Some u) n h e =
     let f = found_done before now (question (asked_about (Some u))) c e h in
