@@ -28,7 +28,7 @@ static ROWS: [&str; 21] = [
     "make SIGNALS SEED",
     "trial SIGNALS SEED WORK *",
     "sweep STREET NEW WORK CYCLE ..",
-    "--help",
+    "--help [WORD]",
     "--version",
 ];
 
@@ -52,6 +52,7 @@ fn setting_word(setting: Setting) -> &'static str {
         Setting::Cycles => " CYCLE ..",
         Setting::Title => " [TITLE]",
         Setting::Reference => " [REFERENCE]",
+        Setting::Word => " [WORD]",
     }
 }
 

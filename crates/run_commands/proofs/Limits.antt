@@ -14,12 +14,12 @@ use Rattle.run_inputs.specs.Numbers.{number_within, signals_of, seed_of, limit_o
 use Rattle.run_inputs.proofs.Spelled.{in_limits}
 use Rattle.run_inputs.proofs.Cycling.{cycles_spelled}
 use Rattle.run_commands.specs.declared.settings.Setting.{Setting}
-use Rattle.run_commands.specs.declared.settings.Setting.TheVariants.{Signals, Seed, Limit, Work, Cycles, Title, Reference}
+use Rattle.run_commands.specs.declared.settings.Setting.TheVariants.{Signals, Seed, Limit, Work, Cycles, Title, Reference, Word}
 use Rattle.run_commands.specs.declared.table.Usage.{Usage}
 use Rattle.run_commands.specs.declared.table.TheConstants.{USAGES}
-use Rattle.run_commands.specs.Settings.{Settings, unsaid, InLimits, said, may_be_left_out, takes_all, cycles_said, none_left, all_said}
+use Rattle.run_commands.specs.Settings.{Settings, unsaid, InLimits}
 use Rattle.run_commands.specs.Table.{row, readers}
-use Rattle.run_commands.specs.Words.{Request, request, with_output, asked_with, named, request_of}
+use Rattle.run_commands.specs.Words.{named, said, may_be_left_out, takes_all, cycles_said, none_left, all_said, Request, request, with_output, asked_with, request_of}
 use Rattle.run_commands.specs.Requested.{IsFit}
 
 limit_low : (all : Bool) (number : Option ℕ) → ((n : ℕ) → number ≡ Some n → 1 ≤ n) → (limit : Option ℕ)
@@ -57,12 +57,17 @@ with_reference : (o : Option moment.Reference) (s : Settings) → InLimits s →
 with_reference None s k = tt
 with_reference (Some r) s k = record { limit = k.limit; least = k.least; most = k.most; cycles = k.cycles; title = k.title }
 
+with_about : (o : Option Usage) (s : Settings) → InLimits s → IfSome (option_map (λ (u : Usage). record s { about = Some u }) o) InLimits
+with_about None s k = tt
+with_about (Some u) s k = record { limit = k.limit; least = k.least; most = k.most; cycles = k.cycles; title = k.title }
+
 said_limits : (k : Setting) (w : List ℕ) (s : Settings) → InLimits s → IfSome (said k w s) InLimits
 said_limits Signals w s h = with_signals (signals_of w) s (in_limits 2 16 w) h
 said_limits Seed w s h = with_seed (seed_of w) s h
 said_limits Limit w s h = with_limit (limit_of w) s (some_limit w) h
 said_limits Work w s h = with_limit (limit_of w) s (some_limit w) h
 said_limits Cycles w s h = tt
+said_limits Word w s h = with_about (named USAGES w) s h
 said_limits Title w s h = with_title w s (is_name w) refl h
 said_limits Reference w s h = with_reference (reference_named w) s h
 

@@ -1,5 +1,5 @@
 -- What `--help` and `--version` write.
-use Rattle.std.specs.Prelude.{◌≡◌, ℕ, ◌==◌, List, [], ◌∷◌, ◌++◌, codes, flat_map, if◌then◌else◌}
+use Rattle.std.specs.Prelude.{◌≡◌, ℕ, ◌==◌, List, [], ◌∷◌, ◌++◌, Option, Some, None, codes, flat_map, if◌then◌else◌}
 use Rattle.std.specs.Fmt.{decimal}
 use Rattle.artery_model.specs.Bounds.{first_version, second_version}
 use Rattle.description_reader.specs.KeyTable.{plan_version}
@@ -8,7 +8,6 @@ use Rattle.plan_text.specs.Spelling.{ended, head_line}
 use Rattle.plan_text.specs.CertificateText.{certificate_line}
 use Rattle.plan_text.specs.SecondText.{second_line}
 use Rattle.link_proof.specs.LinkWarrants.{links_line}
-use Rattle.run_commands.specs.Rows.{Row}
 use Rattle.run_inputs.specs.declared.cause.Cause.{Cause}
 use Rattle.run_inputs.specs.declared.cause.Cause.TheVariants as cause
 
@@ -33,12 +32,17 @@ version_text =
 unfoldable pub statuses_line : List ℕ
 statuses_line = codes "statuses and formats: man maxband, docs/FORMATS.md\n"
 
--- the line of each command by its row, in this order
-abbrev pub help_text : {U : Type 0} → (U → Row) → List U → List ℕ
-help_text row usages = flat_map (λ u. (row u).help) usages ++ statuses_line
+-- the line of each command, in this order
+abbrev pub help_text : {U : Type 0} → (U → List ℕ) → List U → List ℕ
+help_text line usages = flat_map line usages ++ statuses_line
 
-abbrev pub HelpFinds : {U : Type 0} → (U → Row) → List U → Cause → List ℕ → Type 0
-HelpFinds row usages c lines = (c ≡ cause.Done) × (lines ≡ help_text row usages)
+-- so, or more of one command
+abbrev pub help_lines : {U : Type 0} → (U → List ℕ) → (U → List ℕ) → List U → Option U → List ℕ
+help_lines line more usages None = help_text line usages
+help_lines line more usages (Some u) = more u
+
+abbrev pub HelpFinds : {U : Type 0} → (U → List ℕ) → (U → List ℕ) → List U → Option U → Cause → List ℕ → Type 0
+HelpFinds line more usages about c lines = (c ≡ cause.Done) × (lines ≡ help_lines line more usages about)
 
 abbrev pub VersionFinds : Cause → List ℕ → Type 0
 VersionFinds c lines = (c ≡ cause.Done) × (lines ≡ version_text)

@@ -21,6 +21,7 @@ pub mod Sheet
 pub mod Make
 pub mod Settings
 pub mod Rows
+pub mod Pages
 pub mod Help
 pub mod Trial
 pub mod Sweep

@@ -1,16 +1,18 @@
 -- What the words say that name no file, in the order of a command's row.
-use Rattle.std.specs.Prelude.{◌≡◌, ℕ, ◌≤◌, Bool, true, false, List, [], ◌∷◌, Option, Some, None, ◌&&◌, map, string_bytes, option_map, option_and_then, if◌then◌else◌, IfSome, IsTrue}
+use Rattle.std.specs.Prelude.{ℕ, ◌≤◌, List, [], Option, Some, None, map, string_bytes, option_map, IfSome, IsTrue}
 use Rattle.work_meter.specs.Work.{IsBelow}
 use Rattle.artery_model.specs.Bounds.{least_signals, most_first_signals}
 use Rattle.artery_model.specs.Limits.{is_name}
-use Rattle.description_reader.specs.References.{reference_named}
 use Rattle.description_reader.specs.declared.measure.Reference as moment
 use Rattle.description_reader.specs.declared.measure.Reference.TheVariants.{Red}
-use Rattle.run_inputs.specs.Numbers.{signals_of, seed_of, limit_of, usual_work}
-use Rattle.run_inputs.specs.Cycles.{are_cycles, SpellCycles}
+use Rattle.run_inputs.specs.Numbers.{usual_work}
+use Rattle.run_inputs.specs.Cycles.{SpellCycles}
+use Rattle.run_inputs.specs.Labels.{Label, label}
 use Rattle.run_commands.specs.declared.settings.Setting.{Setting}
-use Rattle.run_commands.specs.declared.settings.Setting.TheVariants.{Signals, Seed, Limit, Work, Cycles, Title, Reference}
+use Rattle.run_commands.specs.declared.settings.Setting.TheVariants as setting
 use Rattle.run_commands.specs.declared.settings.Settings as code
+use Rattle.run_commands.specs.declared.settings.TheConstants.{SIGNALS, SEED, LIMIT, WORK, CYCLES, TITLE, REFERENCE, WORD}
+use Rattle.run_commands.specs.declared.table.Usage.{Usage}
 
 pub record Settings : Type 0 where
   pub limit : Option ℕ  -- the units of work that a search may spend, where there is a limit
@@ -19,13 +21,14 @@ pub record Settings : Type 0 where
   pub cycles : List (List ℕ)  -- the words that spell them
   pub title : Option (List ℕ)
   pub reference : moment.Reference  -- from which offsets count
+  pub about : Option Usage  -- the command that is asked about
 
 abbrev pub settings_view : code.Settings → Settings
-settings_view s = record { limit = s.limit; signals = s.signals; seed = s.seed; cycles = map string_bytes s.cycles.now; title = option_map (λ word. word.now) s.title; reference = s.reference }
+settings_view s = record { limit = s.limit; signals = s.signals; seed = s.seed; cycles = map string_bytes s.cycles.now; title = option_map (λ word. word.now) s.title; reference = s.reference; about = s.about }
 
 -- where no word says them
 abbrev pub unsaid : Settings
-unsaid = record { limit = Some usual_work; signals = least_signals; seed = 0; cycles = []; title = None; reference = Red }
+unsaid = record { limit = Some usual_work; signals = least_signals; seed = 0; cycles = []; title = None; reference = Red; about = None }
 
 -- a search has work to spend, 2 to 16 signals are made, each cycle is one, and a title is such a name as signals have
 pub record InLimits (s : Settings) : Type 0 where
@@ -35,39 +38,13 @@ pub record InLimits (s : Settings) : Type 0 where
   pub cycles : SpellCycles s.cycles
   pub title : IfSome s.title (λ word. IsTrue (is_name word))
 
--- ---- the words
--- with what this word says
-abbrev pub said : Setting → List ℕ → Settings → Option Settings
-said Signals w s = option_map (λ n. record s { signals = n }) (signals_of w)
-said Seed w s = option_map (λ n. record s { seed = n }) (seed_of w)
-said Limit w s = option_map (λ n. record s { limit = n }) (limit_of w)
-said Work w s = option_map (λ n. record s { limit = n }) (limit_of w)
-said Cycles w s = None
-said Title w s = if is_name w then Some (record s { title = Some w }) else None
-said Reference w s = option_map (λ r. record s { reference = r }) (reference_named w)
-
--- where it stands last it may be left out
-abbrev pub may_be_left_out : Setting → Bool
-may_be_left_out Work = true
-may_be_left_out Title = true
-may_be_left_out Reference = true
-may_be_left_out k = false
-
--- it takes all words that are left
-abbrev pub takes_all : Setting → Bool
-takes_all Cycles = true
-takes_all k = false
-
-abbrev pub cycles_said : List (List ℕ) → Settings → Option Settings
-cycles_said ws s = if are_cycles ws then Some (record s { cycles = ws }) else None
-
-abbrev pub none_left : List Setting → Bool
-none_left [] = true
-none_left (k ∷ ks) = false
-
--- a word for each, but for a last one that takes all or is left out
-abbrev pub all_said : List Setting → List (List ℕ) → Settings → Option Settings
-all_said [] [] s = Some s
-all_said [] (w ∷ ws) s = None
-all_said (k ∷ ks) (w ∷ ws) s = if takes_all k then cycles_said (w ∷ ws) s else option_and_then (all_said ks ws) (said k w s)
-all_said (k ∷ ks) [] s = if may_be_left_out k && none_left ks then Some s else None
+-- what stands for such a word in a usage, and what it is
+abbrev pub setting_label : Setting → Label
+setting_label setting.Signals = label SIGNALS
+setting_label setting.Seed = label SEED
+setting_label setting.Limit = label LIMIT
+setting_label setting.Work = label WORK
+setting_label setting.Cycles = label CYCLES
+setting_label setting.Title = label TITLE
+setting_label setting.Reference = label REFERENCE
+setting_label setting.Word = label WORD

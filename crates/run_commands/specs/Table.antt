@@ -6,7 +6,8 @@ use Rattle.run_inputs.specs.Status.{IsOwnAnswer}
 use Rattle.run_inputs.specs.declared.cause.Cause.{Cause}
 use Rattle.run_inputs.specs.declared.reader.Reader.{Reader}
 use Rattle.run_commands.specs.Settings.{Settings}
-use Rattle.run_commands.specs.Rows.{Row, row_of}
+use Rattle.run_commands.specs.Rows.{Row, Page, row_of, page_of}
+use Rattle.run_commands.specs.Pages.{help_line, page_text}
 use Rattle.run_commands.specs.Hold.{HoldFinds}
 use Rattle.run_commands.specs.Show.{Shows}
 use Rattle.run_commands.specs.Check.{CheckFinds, CheckLinksFinds}
@@ -27,8 +28,9 @@ use Rattle.run_commands.specs.Trial.{IsTrial}
 use Rattle.run_commands.specs.Sweep.{IsSweep}
 use Rattle.run_commands.specs.Ends.{IsDone, IsVerdict, IsTestEnd, IsCheckEnd, IsLinkCheckEnd, IsRoundEnd, IsRoundFromEnd, IsHalfEnd, IsTypedEnd, IsDrawingEnd}
 use Rattle.run_commands.specs.declared.table.Usage.{Usage}
-use Rattle.run_commands.specs.declared.table.Usage.TheVariants.{Solve, Check, Bands, Round, RoundFrom, Half, TimingOf, Draw, Renew, Links, CheckLinks, Hold, Show, Narrow, Widen, Make, Trial, Sweep, Help, Version, Sheet}
-use Rattle.run_commands.specs.declared.table.TheConstants.{SOLVE, CHECK, BANDS, ROUND, ROUND_FROM, HALF, TIMING_OF, DRAW, RENEW, LINKS, CHECK_LINKS, HOLD, SHOW, NARROW, WIDEN, MAKE, TRIAL, SWEEP, HELP, VERSION, USAGES, SHEET}
+use Rattle.run_commands.specs.declared.table.Usage.TheVariants.{Solve, Check, Bands, Round, RoundFrom, Half, TimingOf, Draw, Sheet, Renew, Links, CheckLinks, Hold, Show, Narrow, Widen, Make, Trial, Sweep, Help, Version}
+use Rattle.run_commands.specs.declared.table.TheConstants.{SOLVE, CHECK, BANDS, ROUND, ROUND_FROM, HALF, TIMING_OF, DRAW, SHEET, RENEW, LINKS, CHECK_LINKS, HOLD, SHOW, NARROW, WIDEN, MAKE, TRIAL, SWEEP, HELP, VERSION, USAGES}
+use Rattle.run_commands.specs.declared.table.TheConstants.{SOLVE_PAGE, CHECK_PAGE, BANDS_PAGE, ROUND_PAGE, ROUND_FROM_PAGE, HALF_PAGE, TIMING_OF_PAGE, DRAW_PAGE, SHEET_PAGE, RENEW_PAGE, LINKS_PAGE, CHECK_LINKS_PAGE, HOLD_PAGE, SHOW_PAGE, NARROW_PAGE, WIDEN_PAGE, MAKE_PAGE, TRIAL_PAGE, SWEEP_PAGE, HELP_PAGE, VERSION_PAGE}
 
 abbrev pub row : Usage → Row
 row Solve = row_of SOLVE
@@ -52,6 +54,36 @@ row Trial = row_of TRIAL
 row Sweep = row_of SWEEP
 row Help = row_of HELP
 row Version = row_of VERSION
+
+abbrev pub page : Usage → Page
+page Solve = page_of SOLVE_PAGE
+page Check = page_of CHECK_PAGE
+page Bands = page_of BANDS_PAGE
+page Round = page_of ROUND_PAGE
+page RoundFrom = page_of ROUND_FROM_PAGE
+page Half = page_of HALF_PAGE
+page TimingOf = page_of TIMING_OF_PAGE
+page Draw = page_of DRAW_PAGE
+page Sheet = page_of SHEET_PAGE
+page Renew = page_of RENEW_PAGE
+page Links = page_of LINKS_PAGE
+page CheckLinks = page_of CHECK_LINKS_PAGE
+page Hold = page_of HOLD_PAGE
+page Show = page_of SHOW_PAGE
+page Narrow = page_of NARROW_PAGE
+page Widen = page_of WIDEN_PAGE
+page Make = page_of MAKE_PAGE
+page Trial = page_of TRIAL_PAGE
+page Sweep = page_of SWEEP_PAGE
+page Help = page_of HELP_PAGE
+page Version = page_of VERSION_PAGE
+
+-- its line of the help, and what the help has of it alone
+abbrev pub line_of : Usage → List ℕ
+line_of u = help_line (row u) (page u)
+
+abbrev pub lines_of : Usage → List ℕ
+lines_of u = page_text (row u) (page u)
 
 abbrev pub readers : Usage → List Reader
 readers u = (row u).reads
@@ -81,7 +113,7 @@ Finds Widen v s c lines put = With (IsMove Outwards v.0 c lines) put
 Finds Make v s c lines put = Makes s.signals s.seed c lines
 Finds Trial v s c lines put = IsTrial s.signals s.seed s.limit c lines
 Finds Sweep v s c lines put = With (IsSweep v.0 s.limit s.cycles c lines) put
-Finds Help v s c lines put = HelpFinds row USAGES c lines
+Finds Help v s c lines put = HelpFinds line_of lines_of USAGES s.about c lines
 Finds Version v s c lines put = VersionFinds c lines
 
 -- with which causes it ends, once its files were read

@@ -1,12 +1,63 @@
 -- What the words after the program's name ask for: the command of the first, with names of files and settings by its row.
-use Rattle.std.specs.Prelude.{ℕ, Bool, true, false, List, [], ◌∷◌, Option, Some, None, length, take, drop, nat_le, map, string_bytes, option_map, option_and_then, if◌then◌else◌}
+use Rattle.std.specs.Prelude.{ℕ, Bool, true, false, List, [], ◌∷◌, Option, Some, None, ◌&&◌, length, take, drop, nat_le, map, string_bytes, option_map, option_and_then, if◌then◌else◌}
 use Rattle.std.specs.Str.{bytes_eq}
-use Rattle.run_commands.specs.Settings.{Settings, settings_view, unsaid, all_said}
+use Rattle.artery_model.specs.Limits.{is_name}
+use Rattle.description_reader.specs.References.{reference_named}
+use Rattle.run_inputs.specs.Numbers.{signals_of, seed_of, limit_of}
+use Rattle.run_inputs.specs.Cycles.{are_cycles}
+use Rattle.run_commands.specs.Settings.{Settings, settings_view, unsaid}
 use Rattle.run_commands.specs.Table.{row, readers}
+use Rattle.run_commands.specs.declared.settings.Setting.{Setting}
+use Rattle.run_commands.specs.declared.settings.Setting.TheVariants.{Signals, Seed, Limit, Work, Cycles, Title, Reference, Word}
 use Rattle.run_commands.specs.declared.table.Usage.{Usage}
 use Rattle.run_commands.specs.declared.table.TheConstants.{USAGES}
 use Rattle.run_commands.specs.declared.request.Request as code
 
+-- the first command of this word
+abbrev pub named : List Usage → List ℕ → Option Usage
+named [] w = None
+named (u ∷ us) w = if bytes_eq (row u).word w then Some u else named us w
+
+-- ---- the words that name no file
+-- with what this word says
+abbrev pub said : Setting → List ℕ → Settings → Option Settings
+said Signals w s = option_map (λ n. record s { signals = n }) (signals_of w)
+said Seed w s = option_map (λ n. record s { seed = n }) (seed_of w)
+said Limit w s = option_map (λ n. record s { limit = n }) (limit_of w)
+said Work w s = option_map (λ n. record s { limit = n }) (limit_of w)
+said Cycles w s = None
+said Word w s = option_map (λ u. record s { about = Some u }) (named USAGES w)
+said Reference w s = option_map (λ r. record s { reference = r }) (reference_named w)
+said Title w s = if is_name w then Some (record s { title = Some w }) else None
+
+-- where it stands last it may be left out
+abbrev pub may_be_left_out : Setting → Bool
+may_be_left_out Work = true
+may_be_left_out Title = true
+may_be_left_out Reference = true
+may_be_left_out Word = true
+may_be_left_out k = false
+
+-- it takes all words that are left
+abbrev pub takes_all : Setting → Bool
+takes_all Cycles = true
+takes_all k = false
+
+abbrev pub cycles_said : List (List ℕ) → Settings → Option Settings
+cycles_said ws s = if are_cycles ws then Some (record s { cycles = ws }) else None
+
+abbrev pub none_left : List Setting → Bool
+none_left [] = true
+none_left (k ∷ ks) = false
+
+-- a word for each, but for a last one that takes all or is left out
+abbrev pub all_said : List Setting → List (List ℕ) → Settings → Option Settings
+all_said [] [] s = Some s
+all_said [] (w ∷ ws) s = None
+all_said (k ∷ ks) (w ∷ ws) s = if takes_all k then cycles_said (w ∷ ws) s else option_and_then (all_said ks ws) (said k w s)
+all_said (k ∷ ks) [] s = if may_be_left_out k && none_left ks then Some s else None
+
+-- ---- all words
 -- a command with the names of the files that it reads, of the one that it may put, where there is one, and its settings
 pub record Request : Type 0 where
   pub usage : Usage
@@ -29,11 +80,6 @@ with_output u reads true (w ∷ ws) = option_map (request u reads (Some w)) (all
 abbrev pub asked_with : List (List ℕ) → Usage → Option Request
 asked_with ws u =
     if nat_le (length (readers u)) (length ws) then with_output u (take (length (readers u)) ws) (row u).puts (drop (length (readers u)) ws) else None
-
--- the first command of this word
-abbrev pub named : List Usage → List ℕ → Option Usage
-named [] w = None
-named (u ∷ us) w = if bytes_eq (row u).word w then Some u else named us w
 
 abbrev pub request_of : List (List ℕ) → Option Request
 request_of [] = None

@@ -2,13 +2,14 @@
 
 ghost use Rattle.std.specs.Prelude.{◌≡◌, ◌++◌, IfOk, OnOk, flat_map, refl};
 ghost use Rattle.run_inputs.specs.{Puts.{bytes_of}, Status.{IsOwnAnswer}};
-ghost use Rattle.run_commands.specs.{Help.{version_text, help_text, HelpFinds, VersionFinds}, Table.{row}};
+ghost use Rattle.run_commands.specs.{Help.{version_text, help_text, help_lines, HelpFinds, VersionFinds}, Table.{line_of, lines_of}};
 ghost use Rattle.run_commands.specs.declared.table.TheConstants.{USAGES};
 ghost use Rattle.run_commands.specs.Ends.{IsDone};
 ghost use Rattle.run_commands.specs.declared.table.Usage.TheVariants as usage;
 
 use crate::command::Command;
 use crate::lines::text_lines;
+use crate::page::{push_line, push_page};
 use crate::settings::Settings;
 use crate::table::{USAGES, Usage};
 use narrow_fraction::Memory;
@@ -35,10 +36,10 @@ fn version_text(alloc: Global) -> Result<Vec<u8>, Memory>
 
 /// Writes the lines of these commands, one after the other.
 fn push_usages(out: &mut Vec<u8>, usages: &[Usage]) -> Result<(), Memory>
-    ensures { OnOk result (out.new.items ≡ out.old.items ++ flat_map (λ u. (row u).help) usages.now) }
+    ensures { OnOk result (out.new.items ≡ out.old.items ++ flat_map line_of usages.now) }
 {
     for usage in usages {
-        push_text(out, usage.row().help)?;
+        push_line(out, *usage)?;
     }
     Ok(())
 }
@@ -46,7 +47,7 @@ fn push_usages(out: &mut Vec<u8>, usages: &[Usage]) -> Result<(), Memory>
 /// The line of each command, and where the statuses are told.
 #[tactic(auto, unfolding(crate::specs::Help::statuses_line))]
 fn help_text(alloc: Global) -> Result<Vec<u8>, Memory>
-    ensures { IfOk result (λ text. text.items ≡ help_text row USAGES) }
+    ensures { IfOk result (λ text. text.items ≡ help_text line_of USAGES) }
 {
     let mut text = Vec::new(alloc);
     push_usages(&mut text, &USAGES)?;
@@ -57,13 +58,32 @@ fn help_text(alloc: Global) -> Result<Vec<u8>, Memory>
     Ok(text)
 }
 
-/// Tells each command, and where the statuses are told.
-fn tell_usages(alloc: Global) -> Result<Found, Memory>
-    ensures finds { IfOk result (λ a. HelpFinds row USAGES a.cause a.lines.items) }
+/// What the help has of a command alone.
+fn lines_of(alloc: Global, usage: Usage) -> Result<Vec<u8>, Memory>
+    ensures { IfOk result (λ text. text.items ≡ lines_of usage) }
+{
+    let mut text = Vec::new(alloc);
+    push_page(&mut text, usage)?;
+    Ok(text)
+}
+
+/// The line of each command, or more of the one that is asked about.
+fn help_lines(alloc: Global, about: Option<Usage>) -> Result<Vec<u8>, Memory>
+    ensures { IfOk result (λ text. text.items ≡ help_lines line_of lines_of USAGES about) }
+{
+    match about {
+        None => help_text(alloc),
+        Some(usage) => lines_of(alloc, usage),
+    }
+}
+
+/// Tells each command, and where the statuses are told, or more of one.
+fn tell_usages(alloc: Global, about: Option<Usage>) -> Result<Found, Memory>
+    ensures finds { IfOk result (λ a. HelpFinds line_of lines_of USAGES about a.cause a.lines.items) }
     ensures ends { IfOk result (λ a. IsDone a.cause) }
     ensures answer { IfOk result (λ a. IsOwnAnswer a.cause (bytes_of a)) }
 {
-    let lines = help_text(alloc)?;
+    let lines = help_lines(alloc, about)?;
     Ok(told(Cause::Done, lines))
 }
 
@@ -85,9 +105,9 @@ impl Command for Help {
 
     ghost usage = { usage.Help };
 
-    fn find(alloc: Global, read: &(), _settings: &Settings<'_>) -> Result<Found, Memory> {
+    fn find(alloc: Global, read: &(), settings: &Settings<'_>) -> Result<Found, Memory> {
         let () = read;
-        tell_usages(alloc)
+        tell_usages(alloc, settings.about)
     }
 
     ghost same = { refl };

@@ -48,6 +48,7 @@ mod lines;
 pub mod links;
 pub mod make;
 pub mod narrow;
+mod page;
 pub mod renew;
 mod request;
 pub mod round;

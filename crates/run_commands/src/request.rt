@@ -18,7 +18,7 @@ pub struct Request<'a> {
 }
 
 /// The first command of this word.
-fn named(usages: &[Usage], word: &str) -> Option<Usage>
+pub fn named(usages: &[Usage], word: &str) -> Option<Usage>
     ensures { result ≡ named usages.now word.now }
 {
     match usages {

@@ -1,12 +1,15 @@
 //! What the words say that name no file.
 
 ghost use Rattle.std.specs.Prelude.{◌≡◌, option_map, map, string_bytes};
-ghost use Rattle.run_commands.specs.Settings.{settings_view, unsaid, said, may_be_left_out, takes_all, cycles_said, all_said};
+ghost use Rattle.run_commands.specs.Settings.{setting_label, settings_view, unsaid};
+ghost use Rattle.run_commands.specs.Words.{said, may_be_left_out, takes_all, cycles_said, all_said};
 
+use crate::request::named;
+use crate::table::{USAGES, Usage};
 use artery_model::bounds::LEAST_SIGNALS;
 use artery_model::is_name;
 use description_reader::Reference;
-use run_inputs::{USUAL_WORK, are_cycles, limit_in, seed_in, signals_in};
+use run_inputs::{Label, USUAL_WORK, are_cycles, limit_in, seed_in, signals_in};
 
 /// What a word that names no file says.
 #[derive(Clone, Copy)]
@@ -25,6 +28,58 @@ pub enum Setting {
     Title,
     /// The moment from which offsets count, which may be left out at the end.
     Reference,
+    /// The word of a command, which may be left out at the end.
+    Word,
+}
+
+pub const SIGNALS: Label = ("SIGNALS", "how many signals, 2 to 16");
+
+pub const SEED: Label = ("SEED", "a number from 0 to 18446744073709551615");
+
+pub const LIMIT: Label = (
+    "WORK",
+    "the most units of work of a search, 1 to 18446744073709551615, or all for no limit",
+);
+
+pub const WORK: Label = (
+    "[WORK]",
+    "as many units of work at most, 1 to 18446744073709551615, or all for no limit; 100000 where it is left out",
+);
+
+pub const CYCLES: Label = (
+    "CYCLE ..",
+    "1 to 100 cycles in seconds, each a whole number, a decimal or a fraction",
+);
+
+pub const TITLE: Label = (
+    "[TITLE]",
+    "a title for the picture, 1 to 60 bytes without control characters",
+);
+
+pub const REFERENCE: Label = (
+    "[REFERENCE]",
+    "from which moment offsets count: red, green_out, green_in, first_green, end_out or end_in; red where it is left out",
+);
+
+pub const WORD: Label = ("[WORD]", "the first word of a command");
+
+impl Setting {
+    /// What stands for such a word in a usage, and what it is.
+    pub fn label(self) -> Label
+        ensures name { result.0.now ≡ (setting_label self).name }
+        ensures text { result.1.now ≡ (setting_label self).text }
+    {
+        match self {
+            Setting::Signals => SIGNALS,
+            Setting::Seed => SEED,
+            Setting::Limit => LIMIT,
+            Setting::Work => WORK,
+            Setting::Cycles => CYCLES,
+            Setting::Title => TITLE,
+            Setting::Reference => REFERENCE,
+            Setting::Word => WORD,
+        }
+    }
 }
 
 /// What the words say that name no file. What a command's row doesn't ask for is as where no word says it.
@@ -40,6 +95,8 @@ pub struct Settings<'a> {
     pub title: Option<&'a str>,
     /// The moment from which offsets count.
     pub reference: Reference,
+    /// The command that is asked about.
+    pub about: Option<Usage>,
 }
 
 /// Where no word says them.
@@ -53,6 +110,7 @@ pub fn unsaid() -> Settings<'static>
         cycles: &[],
         title: None,
         reference: Reference::Red,
+        about: None,
     }
 }
 
@@ -99,6 +157,13 @@ fn said<'a>(kind: Setting, word: &'a str, settings: Settings<'a>) -> Option<Sett
                 ..settings
             })
         }
+        Setting::Word => {
+            let usage = named(&USAGES, word)?;
+            Some(Settings {
+                about: Some(usage),
+                ..settings
+            })
+        }
     }
 }
 
@@ -107,7 +172,7 @@ fn may_be_left_out(kind: Setting) -> bool
     ensures { result ≡ may_be_left_out kind }
 {
     match kind {
-        Setting::Work | Setting::Title | Setting::Reference => true,
+        Setting::Work | Setting::Title | Setting::Reference | Setting::Word => true,
         Setting::Signals | Setting::Seed | Setting::Limit | Setting::Cycles => false,
     }
 }
@@ -123,7 +188,8 @@ fn takes_all(kind: Setting) -> bool
         | Setting::Limit
         | Setting::Work
         | Setting::Title
-        | Setting::Reference => false,
+        | Setting::Reference
+        | Setting::Word => false,
     }
 }
 

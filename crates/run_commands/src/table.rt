@@ -1,13 +1,13 @@
 //! The commands, a row each.
 
 ghost use Rattle.std.specs.Prelude.{◌≡◌};
-ghost use Rattle.run_commands.specs.{Rows.{row_view}, Table.{row}};
+ghost use Rattle.run_commands.specs.{Rows.{row_view, page_view}, Table.{row, page}};
 
 use crate::settings::Setting;
 use run_inputs::Reader;
 
 /// A command: its first word, the files that it reads, whether the next word names a file that it may put, what the other words say, whether
-/// any of several best answers may be told, and its line of the help.
+/// any of several best answers may be told, what it does, and what stands for the file that it may put.
 #[derive(Clone, Copy)]
 pub struct Row {
     pub word: &'static str,
@@ -15,7 +15,16 @@ pub struct Row {
     pub puts: bool,
     pub settings: &'static [Setting],
     pub chooses: bool,
-    pub help: &'static str,
+    pub does: &'static str,
+    pub put_name: &'static str,
+}
+
+/// More of a command: what the file is that it may put, what it prints by status, and examples.
+#[derive(Clone, Copy)]
+pub struct Page {
+    pub put: &'static str,
+    pub prints: &'static str,
+    pub examples: &'static str,
 }
 
 #[derive(Clone, Copy)]
@@ -76,7 +85,11 @@ pub type Parts = (
     &'static [Setting],
     bool,
     &'static str,
+    &'static str,
 );
+
+/// Those of a page. They stand apart, since longer parts are dear to prove.
+pub type PageParts = (&'static str, &'static str, &'static str);
 
 pub const SOLVE: Parts = (
     "solve",
@@ -84,7 +97,19 @@ pub const SOLVE: Parts = (
     true,
     &[Setting::Work],
     true,
-    "maxband solve STREET CERT [WORK]              search for a best timing, and put its certificate\n",
+    "search for a best timing, and put its certificate",
+    "CERT",
+);
+
+pub const SOLVE_PAGE: PageParts = (
+    "the certificate of what is found, also where that is a bound or nothing",
+    "0 verdict best, and the report: no good timing is wider, on any grid of time
+1 verdict none: no timing is good
+2 verdict open, and the report: the search stopped, and no good timing is above the bound
+",
+    "maxband solve examples/broadway.toml broadway-certificate.txt
+maxband solve examples/near.toml near-certificate.txt all
+",
 );
 
 pub const CHECK: Parts = (
@@ -93,7 +118,18 @@ pub const CHECK: Parts = (
     false,
     &[],
     false,
-    "maxband check STREET CERT                     check what a certificate claims\n",
+    "check what a certificate claims",
+    "",
+);
+
+pub const CHECK_PAGE: PageParts = (
+    "",
+    "0 accepted best X, accepted none or accepted open bound X ..: what is claimed is so
+4 rejected REASON: it isn't proved
+",
+    "maxband check examples/near.toml examples/near-best.txt
+maxband check examples/near.toml examples/near-weak.txt
+",
 );
 
 pub const BANDS: Parts = (
@@ -102,7 +138,18 @@ pub const BANDS: Parts = (
     false,
     &[],
     false,
-    "maxband bands STREET TIMING                   measure the widest bands on a timing's offsets\n",
+    "measure the widest bands on a timing's offsets",
+    "",
+);
+
+pub const BANDS_PAGE: PageParts = (
+    "",
+    "0 band out X = D first N or no band out, and the same of in: X is a part of the cycle
+4 fails RULE: a rule that speaks of no band
+",
+    "maxband bands examples/market.toml examples/market-good.txt
+maxband bands examples/broadway.toml examples/broadway-today.txt
+",
 );
 
 pub const ROUND: Parts = (
@@ -111,7 +158,19 @@ pub const ROUND: Parts = (
     true,
     &[],
     false,
-    "maxband round STREET CERT NEW                 put a plan in whole seconds of a certified timing\n",
+    "put a plan in whole seconds of a certified timing",
+    "NEW",
+);
+
+pub const ROUND_PAGE: PageParts = (
+    "the timing of the plan",
+    "0 cycle N, a line of each signal and band, weighted X = D and loss X: no good timing is wider by more than the loss
+4 rejected REASON: what the certificate claims isn't proved
+10 no plan ..: why, and nothing is put
+",
+    "maxband round examples/near.toml examples/near-best.txt near-plan.txt
+maxband round examples/near.toml examples/near-renewed.txt near-plan.txt
+",
 );
 
 pub const ROUND_FROM: Parts = (
@@ -120,7 +179,19 @@ pub const ROUND_FROM: Parts = (
     true,
     &[],
     false,
-    "maxband round-from STREET CERT OTHER NEW      put such a plan of another timing, held against a certificate\n",
+    "put such a plan of another timing, held against a certificate",
+    "NEW",
+);
+
+pub const ROUND_FROM_PAGE: PageParts = (
+    "the timing of the plan",
+    "0 the lines of round: no good timing is wider than the plan of FILE by more than the loss
+4 rejected REASON: what the certificate claims isn't proved; fails RULE: the timing of FILE breaks this rule
+10 no plan ..: why, and nothing is put
+",
+    "maxband round-from examples/near.toml examples/near-best.txt examples/near-renewed.txt near-plan.txt
+maxband round-from examples/near.toml examples/near-renewed.txt examples/near-best.txt near-plan.txt
+",
 );
 
 pub const HALF: Parts = (
@@ -129,7 +200,19 @@ pub const HALF: Parts = (
     true,
     &[],
     true,
-    "maxband half STREET TIMING NEW                put the half-cycle plan with the widest equal bands\n",
+    "put the half-cycle plan with the widest equal bands",
+    "NEW",
+);
+
+pub const HALF_PAGE: PageParts = (
+    "the timing of the plan",
+    "0 equal band X = D, and a line of each signal; or no equal band, and nothing is put
+4 fails RULE: a rule that speaks of no band
+11 uneven signal I, unequal link I or ticks N: the timing can have no such plan
+",
+    "maxband half examples/downtown.toml examples/downtown-good.txt downtown-half.txt
+maxband half examples/school.toml examples/school-good.txt school-half.txt
+",
 );
 
 pub const TIMING_OF: Parts = (
@@ -138,7 +221,19 @@ pub const TIMING_OF: Parts = (
     true,
     &[],
     false,
-    "maxband timing STREET PLAN NEW                put the timing of a plan typed in seconds\n",
+    "put the timing of a plan typed in seconds",
+    "NEW",
+);
+
+pub const TIMING_OF_PAGE: PageParts = (
+    "the timing, whichever rules it breaks",
+    "0 the lines of bands, weighted X = D, and holds or fails RULE
+3 refused CountMismatch PLACE: the plan has more or fewer numbers than the street asks for
+11 ticks N: a number of the timing would be 2^80 or more
+",
+    "maxband timing examples/broadway.toml examples/broadway-today.plan broadway-today.txt
+maxband timing examples/measured.toml examples/broadway-today.plan measured-today.txt
+",
 );
 
 pub const DRAW: Parts = (
@@ -147,7 +242,19 @@ pub const DRAW: Parts = (
     true,
     &[Setting::Title],
     false,
-    "maxband draw STREET FILE SVG [TITLE]          put a picture of the timing of a timing or certificate\n",
+    "put a picture of the timing of a timing or certificate",
+    "SVG",
+);
+
+pub const DRAW_PAGE: PageParts = (
+    "the picture",
+    "0 drawn, and fails RULE where the timing breaks a rule
+4 fails shape: the timing has another number of signals
+10 no plan timing: the certificate has none
+",
+    "maxband draw examples/market.toml examples/market-good.txt market.svg
+maxband draw examples/near.toml examples/near-best.txt near.svg 'Church Street'
+",
 );
 
 pub const SHEET: Parts = (
@@ -156,7 +263,19 @@ pub const SHEET: Parts = (
     true,
     &[Setting::Reference],
     false,
-    "maxband sheet STREET FILE SHEET [REFERENCE]   put a timing as a table of seconds, for controllers and spreadsheets\n",
+    "put a timing as a table of seconds, for controllers and spreadsheets",
+    "SHEET",
+);
+
+pub const SHEET_PAGE: PageParts = (
+    "the table, comma-separated values, a header and a record for each signal",
+    "0 cycle D s, the bands in seconds, weighted X = D, and holds or fails RULE
+4 fails shape: the timing has another number of signals
+10 no plan timing: the certificate has none
+",
+    "maxband sheet examples/market.toml examples/market-good.txt market.csv
+maxband sheet examples/near.toml examples/near-best.txt near.csv green_out
+",
 );
 
 pub const RENEW: Parts = (
@@ -165,7 +284,17 @@ pub const RENEW: Parts = (
     true,
     &[],
     false,
-    "maxband renew CERT NEW                        put a certificate in the second format\n",
+    "put a certificate in the second format",
+    "NEW",
+);
+
+pub const RENEW_PAGE: PageParts = (
+    "the certificate, in the second format",
+    "0 renewed: whether it proves anything, check says
+",
+    "maxband renew examples/near-best.txt near-renewed.txt
+maxband renew examples/near-renewed.txt near-again.txt
+",
 );
 
 pub const LINKS: Parts = (
@@ -174,7 +303,19 @@ pub const LINKS: Parts = (
     true,
     &[Setting::Work],
     true,
-    "maxband links STREET CERT [WORK]              search for best bands of each link, and put their certificate\n",
+    "search for best bands of each link, and put their certificate",
+    "CERT",
+);
+
+pub const LINKS_PAGE: PageParts = (
+    "the certificate of links of what is found, also where that is a bound or nothing",
+    "0 verdict best, and the report: no good link timing is wider, on any grid of time
+1 verdict none: no link timing is good
+2 verdict open, and the report: the search stopped, and no good link timing is above the bound
+",
+    "maxband links examples/bridge.toml bridge-certificate.txt
+maxband links examples/near.toml near-links.txt all
+",
 );
 
 pub const CHECK_LINKS: Parts = (
@@ -183,7 +324,18 @@ pub const CHECK_LINKS: Parts = (
     false,
     &[],
     false,
-    "maxband check-links STREET CERT               check what a certificate of links claims\n",
+    "check what a certificate of links claims",
+    "",
+);
+
+pub const CHECK_LINKS_PAGE: PageParts = (
+    "",
+    "0 accepted best X, accepted none or accepted open bound X ..: what is claimed is so
+4 rejected REASON: it isn't proved
+",
+    "maxband check-links examples/bridge.toml examples/bridge-links.txt
+maxband check-links examples/near.toml examples/bridge-links.txt
+",
 );
 
 pub const HOLD: Parts = (
@@ -192,7 +344,18 @@ pub const HOLD: Parts = (
     false,
     &[],
     false,
-    "maxband hold STREET TIMING                    test a timing tick by tick\n",
+    "test a timing tick by tick",
+    "",
+);
+
+pub const HOLD_PAGE: PageParts = (
+    "",
+    "0 holds, and weighted X: the timing is good
+4 fails RULE: the first rule that it breaks
+",
+    "maxband hold examples/market.toml examples/market-good.txt
+maxband hold examples/market.toml examples/market-queue.txt
+",
 );
 
 pub const SHOW: Parts = (
@@ -201,7 +364,17 @@ pub const SHOW: Parts = (
     false,
     &[],
     false,
-    "maxband show STREET                           write the canonical description\n",
+    "write the canonical description",
+    "",
+);
+
+pub const SHOW_PAGE: PageParts = (
+    "",
+    "0 the description with every key, in one form
+",
+    "maxband show examples/market.toml
+maxband show examples/valley.toml
+",
 );
 
 pub const NARROW: Parts = (
@@ -210,7 +383,17 @@ pub const NARROW: Parts = (
     true,
     &[],
     false,
-    "maxband narrow STREET NEW                     put the street with its limits of speed moved inwards to short numbers\n",
+    "put the street with its limits of speed moved inwards to short numbers",
+    "NEW",
+);
+
+pub const NARROW_PAGE: PageParts = (
+    "the street with the moved limits, in the canonical form",
+    "0 narrowed N, how many limits are others, and a line of each direction of a link that stays: each timing that is good for NEW is good for STREET
+",
+    "maxband narrow examples/measured.toml narrowed.toml
+maxband solve narrowed.toml narrowed-certificate.txt
+",
 );
 
 pub const WIDEN: Parts = (
@@ -219,7 +402,17 @@ pub const WIDEN: Parts = (
     true,
     &[],
     false,
-    "maxband widen STREET NEW                      put the street with its limits of speed moved outwards to short numbers\n",
+    "put the street with its limits of speed moved outwards to short numbers",
+    "NEW",
+);
+
+pub const WIDEN_PAGE: PageParts = (
+    "the street with the moved limits, in the canonical form",
+    "0 widened N, how many limits are others, and a line of each direction of a link that stays: each timing that is good for STREET is good for NEW
+",
+    "maxband widen examples/measured.toml widened.toml
+maxband solve widened.toml widened-certificate.txt
+",
 );
 
 pub const MAKE: Parts = (
@@ -228,7 +421,17 @@ pub const MAKE: Parts = (
     false,
     &[Setting::Signals, Setting::Seed],
     false,
-    "maxband make SIGNALS SEED                     write the description of an artery from a seed\n",
+    "write the description of an artery from a seed",
+    "",
+);
+
+pub const MAKE_PAGE: PageParts = (
+    "",
+    "0 the description with every key, in one form
+",
+    "maxband make 8 5
+maxband make 16 0
+",
 );
 
 pub const TRIAL: Parts = (
@@ -237,7 +440,19 @@ pub const TRIAL: Parts = (
     false,
     &[Setting::Signals, Setting::Seed, Setting::Limit],
     true,
-    "maxband trial SIGNALS SEED WORK               search such an artery, and check the certificate\n",
+    "search such an artery, and check the certificate",
+    "",
+);
+
+pub const TRIAL_PAGE: PageParts = (
+    "",
+    "0 the summary with verdict best: no good timing is wider, on any grid of time
+1 the summary with verdict none: no timing is good
+2 the summary with verdict open: the search stopped, and no good timing is above the bound
+",
+    "maxband trial 8 5 100000
+maxband trial 4 7 all
+",
 );
 
 pub const SWEEP: Parts = (
@@ -246,16 +461,36 @@ pub const SWEEP: Parts = (
     true,
     &[Setting::Limit, Setting::Cycles],
     false,
-    "maxband sweep STREET TABLE WORK CYCLE ..      search at each cycle, and put a table\n",
+    "search at each cycle, and put a table",
+    "TABLE",
+);
+
+pub const SWEEP_PAGE: PageParts = (
+    "comma-separated values, a header and a record for each cycle",
+    "0 rows N: of each of the N cycles, whatever its verdict is
+",
+    "maxband sweep examples/broadway.toml broadway-cycles.csv 100000 70 80 90 100
+maxband sweep examples/near.toml near-cycles.csv all 100
+",
 );
 
 pub const HELP: Parts = (
     "--help",
     &[],
     false,
-    &[],
+    &[Setting::Word],
     false,
-    "maxband --help                                write these lines\n",
+    "write these lines, or more of one command",
+    "",
+);
+
+pub const HELP_PAGE: PageParts = (
+    "",
+    "0 a line of each command; or of one command what you read here
+",
+    "maxband --help
+maxband --help solve
+",
 );
 
 pub const VERSION: Parts = (
@@ -264,7 +499,17 @@ pub const VERSION: Parts = (
     false,
     &[],
     false,
-    "maxband --version                             write the versions of the program and of what it reads\n",
+    "write the versions of the program and of what it reads",
+    "",
+);
+
+pub const VERSION_PAGE: PageParts = (
+    "",
+    "0 the version of the program, and those of descriptions, plans, timings and certificates
+",
+    "maxband --version
+maxband --help --version
+",
 );
 
 impl Usage {
@@ -272,7 +517,7 @@ impl Usage {
     pub fn row(self) -> Row
         ensures { row_view result ≡ row self }
     {
-        let (word, reads, puts, settings, chooses, help) = match self {
+        let (word, reads, puts, settings, chooses, does, put_name) = match self {
             Usage::Solve => SOLVE,
             Usage::Check => CHECK,
             Usage::Bands => BANDS,
@@ -301,7 +546,42 @@ impl Usage {
             puts,
             settings,
             chooses,
-            help,
+            does,
+            put_name,
+        }
+    }
+
+    /// Its page.
+    pub fn page(self) -> Page
+        ensures { page_view result ≡ page self }
+    {
+        let (put, prints, examples) = match self {
+            Usage::Solve => SOLVE_PAGE,
+            Usage::Check => CHECK_PAGE,
+            Usage::Bands => BANDS_PAGE,
+            Usage::Round => ROUND_PAGE,
+            Usage::RoundFrom => ROUND_FROM_PAGE,
+            Usage::Half => HALF_PAGE,
+            Usage::TimingOf => TIMING_OF_PAGE,
+            Usage::Draw => DRAW_PAGE,
+            Usage::Sheet => SHEET_PAGE,
+            Usage::Renew => RENEW_PAGE,
+            Usage::Links => LINKS_PAGE,
+            Usage::CheckLinks => CHECK_LINKS_PAGE,
+            Usage::Hold => HOLD_PAGE,
+            Usage::Show => SHOW_PAGE,
+            Usage::Narrow => NARROW_PAGE,
+            Usage::Widen => WIDEN_PAGE,
+            Usage::Make => MAKE_PAGE,
+            Usage::Trial => TRIAL_PAGE,
+            Usage::Sweep => SWEEP_PAGE,
+            Usage::Help => HELP_PAGE,
+            Usage::Version => VERSION_PAGE,
+        };
+        Page {
+            put,
+            prints,
+            examples,
         }
     }
 }

@@ -5,3 +5,4 @@ pub mod Lines
 pub mod Reading
 pub mod Status
 pub mod Puts
+pub mod Labels

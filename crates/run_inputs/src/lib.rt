@@ -31,4 +31,4 @@ pub use inputs::Inputs;
 pub use lines::{cannot_read_bytes, push_numbered, refused_line, words_line};
 pub use numbers::{USUAL_WORK, limit_in, seed_in, signals_in};
 pub use readable::{Readable, Timed};
-pub use reader::Reader;
+pub use reader::{Label, Reader};

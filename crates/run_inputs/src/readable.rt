@@ -9,18 +9,13 @@ ghost use Rattle.run_inputs.specs.declared.reader.Reader.TheVariants as reader;
 use crate::cause::Cause;
 use crate::found::{Unread, told};
 use crate::lines::{bad_text_line, refused_line};
+use crate::reader::Reader;
 use artery_model::{Artery, Flaw, Refusal};
 use description_reader::{TypedPlan, read_artery, read_plan};
 use link_proof::{LinkCertificate, read_links};
 use plan_text::{BadText, Certificate, TextEnd, read_certificate, read_timing};
 use std::alloc::Global;
 use time_space::Timing;
-
-/// The most bytes of a description, a timing or a typed plan.
-const SHORT_FILE: u64 = 1_048_576;
-
-/// The most bytes of a certificate of either kind.
-const LONG_FILE: u64 = 268_435_456;
 
 /// A value that a file is read as.
 pub trait Readable: Drop {
@@ -73,7 +68,7 @@ impl Readable for Artery {
     ghost value = { λ a. a };
 
     fn most_bytes() -> u64 {
-        SHORT_FILE
+        Reader::Description.most_bytes()
     }
 
     fn read(alloc: Global, bytes: &[u8]) -> Result<Artery, Unread> {
@@ -92,7 +87,7 @@ impl Readable for TypedPlan {
     ghost value = { λ p. p };
 
     fn most_bytes() -> u64 {
-        SHORT_FILE
+        Reader::TypedPlan.most_bytes()
     }
 
     fn read(alloc: Global, bytes: &[u8]) -> Result<TypedPlan, Unread> {
@@ -110,7 +105,7 @@ impl Readable for Timing {
     ghost value = { λ t. t };
 
     fn most_bytes() -> u64 {
-        SHORT_FILE
+        Reader::Timing.most_bytes()
     }
 
     fn read(alloc: Global, bytes: &[u8]) -> Result<Timing, Unread> {
@@ -128,7 +123,7 @@ impl Readable for Certificate {
     ghost value = { λ w. w };
 
     fn most_bytes() -> u64 {
-        LONG_FILE
+        Reader::Certificate.most_bytes()
     }
 
     fn read(alloc: Global, bytes: &[u8]) -> Result<Certificate, Unread> {
@@ -159,7 +154,7 @@ impl Readable for Timed {
     ghost value = { λ t. t.timing };
 
     fn most_bytes() -> u64 {
-        LONG_FILE
+        Reader::Timed.most_bytes()
     }
 
     #[tactic(auto, using(crate::proofs::Timing::timing_read, crate::proofs::Timing::certificate_read))]
@@ -180,7 +175,7 @@ impl Readable for LinkCertificate {
     ghost value = { λ w. w };
 
     fn most_bytes() -> u64 {
-        LONG_FILE
+        Reader::LinkCertificate.most_bytes()
     }
 
     fn read(alloc: Global, bytes: &[u8]) -> Result<LinkCertificate, Unread> {

@@ -1,5 +1,8 @@
 //! The kinds of files.
 
+ghost use Rattle.std.specs.Prelude.{◌≡◌, ◌<◌, ◌^◌};
+ghost use Rattle.run_inputs.specs.{Labels.{reader_label}, Reading.{most_bytes}};
+
 /// As what a file is read.
 #[derive(Clone, Copy)]
 pub enum Reader {
@@ -13,4 +16,56 @@ pub enum Reader {
     Timed,
     /// A plan as people type it, in seconds.
     TypedPlan,
+}
+
+/// What stands for a word in a usage, and what that word is.
+pub type Label = (&'static str, &'static str);
+
+pub const DESCRIPTION: Label = ("STREET", "a description of a street");
+
+pub const TIMING: Label = ("TIMING", "a timing");
+
+pub const CERTIFICATE: Label = ("CERT", "a certificate of solve, in either format");
+
+pub const LINK_CERTIFICATE: Label = ("CERT", "a certificate of links");
+
+pub const TIMED: Label = (
+    "FILE",
+    "a timing or a certificate of solve, of which the timing is taken",
+);
+
+pub const TYPED_PLAN: Label = ("PLAN", "a plan typed in seconds");
+
+/// The most bytes of a description, a timing or a typed plan.
+const SHORT_FILE: u64 = 1_048_576;
+
+/// The most bytes of a certificate of either kind.
+const LONG_FILE: u64 = 268_435_456;
+
+impl Reader {
+    /// What stands for such a file in a usage, and what it is.
+    pub fn label(self) -> Label
+        ensures name { result.0.now ≡ (reader_label self).name }
+        ensures text { result.1.now ≡ (reader_label self).text }
+    {
+        match self {
+            Reader::Description => DESCRIPTION,
+            Reader::Timing => TIMING,
+            Reader::Certificate => CERTIFICATE,
+            Reader::LinkCertificate => LINK_CERTIFICATE,
+            Reader::Timed => TIMED,
+            Reader::TypedPlan => TYPED_PLAN,
+        }
+    }
+
+    /// The most bytes of such a file.
+    pub fn most_bytes(self) -> u64
+        ensures most { result ≡ most_bytes self }
+        ensures few { result < 2 ^ 63 }
+    {
+        match self {
+            Reader::Description | Reader::Timing | Reader::TypedPlan => SHORT_FILE,
+            Reader::Certificate | Reader::LinkCertificate | Reader::Timed => LONG_FILE,
+        }
+    }
 }

@@ -1,9 +1,9 @@
 -- What holds of a request that words ask for.
 use Rattle.std.proofs.Common.{◌≡◌, ℕ, List, [], ◌∷◌, Bool, true, false, Option, Some, None, length, take, drop, nat_le, refl, sym, ◌∙◌, ap, subst}
 use Rattle.std.specs.Prelude.{option_map, option_and_then, if◌then◌else◌}
-use Rattle.run_commands.specs.Settings.{Settings, unsaid, all_said}
+use Rattle.run_commands.specs.Settings.{Settings, unsaid}
 use Rattle.run_commands.specs.Table.{row, readers}
-use Rattle.run_commands.specs.Words.{Request, request, with_output, asked_with, named, request_of}
+use Rattle.run_commands.specs.Words.{named, all_said, Request, request, with_output, asked_with, request_of}
 use Rattle.run_commands.specs.declared.table.Usage.{Usage}
 use Rattle.run_commands.specs.declared.table.TheConstants.{USAGES}
 

@@ -1,18 +1,25 @@
 -- What `--help` says.
-use Rattle.std.proofs.Common.{◌≡◌, ℕ, ◌+◌, length, drop, List, [], ◌∷◌, ◌++◌, Bool, true, false, Option, Some, None, flat_map, ◌⊎◌, inl, inr, refl, sym, ◌∙◌, ap, subst, append_assoc}
-use Rattle.std.specs.Prelude.{if◌then◌else◌}
+use Rattle.std.proofs.Common.{◌≡◌, ℕ, ◌-◌, length, replicate, List, [], ◌∷◌, ◌++◌, codes, Bool, true, false, Option, Some, None, map, flat_map, ◌⊎◌, inl, inr, refl, sym, ◌∙◌, ap, subst, append_assoc}
+use Rattle.std.specs.Prelude.{option_map, option_and_then, if◌then◌else◌}
 use Rattle.std.specs.Str.{bytes_eq}
 use Rattle.std.proofs.lemmas.Slice.Eq.{bytes_eq-Decides}
-use Rattle.run_commands.specs.declared.table.Usage.{Usage}
-use Rattle.run_commands.specs.Settings.{unsaid}
-use Rattle.run_commands.specs.Table.{row}
-use Rattle.run_commands.specs.Words.{named}
 use Rattle.outer_edge.specs.Taken.{Appends}
+use Rattle.run_inputs.specs.Labels.{Label}
+use Rattle.run_inputs.specs.Status.{number_of}
+use Rattle.run_inputs.specs.declared.cause.Cause.{Cause}
 use Rattle.run_commands.specs.Help.{statuses_line}
+use Rattle.run_commands.specs.Rows.{Row, Page}
+use Rattle.run_commands.specs.Pages.{file_label, put_labels, each_word, name_text}
+use Rattle.run_commands.specs.Settings.{setting_label, unsaid}
+use Rattle.run_commands.specs.Table.{row, page, line_of}
+use Rattle.run_commands.specs.Words.{named, all_said, Request, request, request_of}
+use Rattle.run_commands.specs.declared.table.Usage.{Usage}
 use Rattle.run_commands.specs.declared.table.Usage.TheVariants as usage
 use Rattle.run_commands.specs.declared.table.TheConstants.{USAGES}
+use Rattle.maxband_run.specs.Outside.{Outside}
+use Rattle.maxband_run.specs.Run.{question, Ends}
 use Rattle.run_laws.specs.Asked as ask
-use Rattle.run_laws.specs.Laws.{IsNamedBy, HelpSays}
+use Rattle.run_laws.specs.Laws.{IsNamedBy, TellsUsage, TellsCommand, HelpSays}
 use Rattle.run_laws.proofs.Asking.{asked_by}
 use Rattle.run_laws.proofs.Found.{found_done}
 
@@ -39,44 +46,76 @@ pub named_is_one : (us : List Usage) (w : List ℕ) (u : Usage) → named us w �
 named_is_one [] w u e = absurd cc
 named_is_one (v ∷ vs) w u e = named_first (bytes_eq (row v).word w) v w vs u refl e (named_is_one vs w u)
 
--- what stands behind the word of each in its line
-abbrev behind : Usage → List ℕ
-behind u = drop (9 + length (row u).word) (row u).help
+-- ---- the line of a command
+-- a text that begins with a blank
+abbrev Starts : List ℕ → Type 0
+Starts t = (more : List ℕ) × (t ≡ 32 ∷ more)
 
-line_named : (u : Usage) → IsNamedBy (row u).help (row u).word
-line_named usage.Solve = record { more = behind usage.Solve; is = refl }
-line_named usage.Check = record { more = behind usage.Check; is = refl }
-line_named usage.Bands = record { more = behind usage.Bands; is = refl }
-line_named usage.Round = record { more = behind usage.Round; is = refl }
-line_named usage.RoundFrom = record { more = behind usage.RoundFrom; is = refl }
-line_named usage.Half = record { more = behind usage.Half; is = refl }
-line_named usage.TimingOf = record { more = behind usage.TimingOf; is = refl }
-line_named usage.Draw = record { more = behind usage.Draw; is = refl }
-line_named usage.Renew = record { more = behind usage.Renew; is = refl }
-line_named usage.Links = record { more = behind usage.Links; is = refl }
-line_named usage.CheckLinks = record { more = behind usage.CheckLinks; is = refl }
-line_named usage.Hold = record { more = behind usage.Hold; is = refl }
-line_named usage.Show = record { more = behind usage.Show; is = refl }
-line_named usage.Make = record { more = behind usage.Make; is = refl }
-line_named usage.Trial = record { more = behind usage.Trial; is = refl }
-line_named usage.Sweep = record { more = behind usage.Sweep; is = refl }
-line_named usage.Help = record { more = behind usage.Help; is = refl }
-line_named usage.Version = record { more = behind usage.Version; is = refl }
+starts : (ls : List Label) (t : List ℕ) → Starts t → Starts (flat_map name_text ls ++ t)
+starts [] t h = h
+starts (l ∷ ls) t h = ((l.name ++ flat_map name_text ls) ++ t, refl)
+
+-- the names of all words, and what begins with a blank
+words_start : (r : Row) (p : Page) (t : List ℕ) → Starts t → Starts (each_word name_text r p ++ t)
+words_start r p t h =
+    let files = map file_label r.reads in
+    let settings = map setting_label r.settings in
+    let rest = starts (put_labels r p) (flat_map name_text settings ++ t) (starts settings t h) in
+    let all = starts files (flat_map name_text (put_labels r p) ++ (flat_map name_text settings ++ t)) rest in
+    let is : each_word name_text r p ++ t ≡ flat_map name_text files ++ (flat_map name_text (put_labels r p) ++ (flat_map name_text settings ++ t)) =
+    append_assoc (flat_map name_text files) (flat_map name_text (put_labels r p) ++ flat_map name_text settings) t
+    ∙ ap (λ y. flat_map name_text files ++ y) (append_assoc (flat_map name_text (put_labels r p)) (flat_map name_text settings) t) in
+    (all.0, is ∙ all.1)
+
+line_named : (u : Usage) → IsNamedBy (line_of u) (row u).word
+line_named u =
+    let r = row u in
+    let names = each_word name_text r (page u) in
+    let asked = codes "maxband " ++ (r.word ++ names) in
+    let blanks = replicate (46 - length (asked ++ codes " ")) 32 in
+    let end = r.does ++ codes "\n" in
+    let tail = codes " " ++ (blanks ++ end) in
+    let s = words_start r (page u) tail (blanks ++ end, refl) in
+    let is : line_of u ≡ codes "maxband " ++ (r.word ++ (names ++ tail)) =
+    append_assoc (asked ++ codes " ") blanks end
+    ∙ append_assoc asked (codes " ") (blanks ++ end)
+    ∙ append_assoc (codes "maxband ") (r.word ++ names) tail
+    ∙ ap (λ y. codes "maxband " ++ y) (append_assoc r.word names tail) in
+    record { more = s.0; is = is ∙ ap (λ y. codes "maxband " ++ (r.word ++ y)) s.1 }
 
 -- ---- what is written
-pub help_says : HelpSays
-help_says before now word words asked c h e k =
+all_told : (before now : Outside) (word : List ℕ) (words : List (List ℕ)) (asked : Request) (c : Cause)
+    → Ends before now (ask.asked usage.Help [] None unsaid) c → number_of c ≡ 0 → request_of (word ∷ words) ≡ Some asked → TellsUsage before now asked word
+all_told before now word words asked c h e k =
     let f = found_done before now (ask.asked usage.Help [] None unsaid) c e h in
     let by = asked_by word words asked k in
     let one = named_is_one USAGES word by.usage by.named_is in
-    let l = around (λ u. (row u).help) USAGES by.usage one.0 in
-    let whole = f.answer.finds.finds.1 ∙ ap (λ t. t ++ statuses_line) l.2 ∙ append_assoc l.0 ((row by.usage).help ++ l.1) statuses_line
-    ∙ ap (λ t. l.0 ++ t) (append_assoc (row by.usage).help l.1 statuses_line) in
+    let l = around line_of USAGES by.usage one.0 in
+    let whole = f.answer.finds.finds.1 ∙ ap (λ t. t ++ statuses_line) l.2 ∙ append_assoc l.0 (line_of by.usage ++ l.1) statuses_line
+    ∙ ap (λ t. l.0 ++ t) (append_assoc (line_of by.usage) l.1 statuses_line) in
     let is : by.usage ≡ asked.usage = sym by.asked.usage_is in
     let back = l.1 ++ statuses_line in
     record {
       front = l.0;
       back = back;
-      told = subst (λ (u : Usage). Appends before.taken now.taken (l.0 ++ ((row u).help ++ back))) is (subst (λ (t : List ℕ). Appends before.taken now.taken t) whole f.done.written);
-      named = subst (λ (u : Usage). IsNamedBy (row u).help word) is (subst (λ (w : List ℕ). IsNamedBy (row by.usage).help w) one.1 (line_named by.usage));
+      told = subst (λ (u : Usage). Appends before.taken now.taken (l.0 ++ (line_of u ++ back))) is (subst (λ (t : List ℕ). Appends before.taken now.taken t) whole f.done.written);
+      named = subst (λ (u : Usage). IsNamedBy (line_of u) word) is (subst (λ (w : List ℕ). IsNamedBy (line_of by.usage) w) one.1 (line_named by.usage));
     }
+
+-- what `--help` asks for with a word behind it, which names this
+abbrev asked_about : Option Usage → Option Request
+asked_about o = option_map (request usage.Help [] None) (option_and_then (all_said [] []) (option_map (λ u. record unsaid { about = Some u }) o))
+
+one_about : (before now : Outside) (word : List ℕ) (c : Cause) (o : Option Usage) → named USAGES word ≡ o
+    → Ends before now (question (asked_about o)) c → number_of c ≡ 0 → TellsCommand before now word
+one_about before now word c None n h e = let f = found_done before now (question None) c e h in let no = f.answer.finds.0 in absurd cc
+one_about before now word c (Some u) n h e =
+    let f = found_done before now (question (asked_about (Some u))) c e h in
+    record {
+      command = u;
+      word_is = (named_is_one USAGES word u n).1;
+      told = subst (λ (t : List ℕ). Appends before.taken now.taken t) f.answer.finds.finds.1 f.done.written;
+    }
+
+pub help_says : HelpSays
+help_says = record { all = all_told; one = λ before now word c h e. one_about before now word c (named USAGES word) refl h e }

@@ -33,7 +33,7 @@ use Rattle.run_inputs.specs.declared.reader.Reader.{Reader}
 use Rattle.run_inputs.specs.declared.reader.Reader.TheVariants.{Description, Timing, Certificate}
 use Rattle.run_commands.specs.Ends.{IsVerdict}
 use Rattle.run_commands.specs.Settings.{unsaid}
-use Rattle.run_commands.specs.Table.{row}
+use Rattle.run_commands.specs.Table.{row, line_of, lines_of}
 use Rattle.run_commands.specs.Words.{Request, request_of}
 use Rattle.run_commands.specs.declared.table.Usage.{Usage}
 use Rattle.run_commands.specs.declared.table.Usage.TheVariants as usage
@@ -220,13 +220,20 @@ pub record IsNamedBy (line word : List ℕ) : Type 0 where
 pub record TellsUsage (before now : Outside) (asked : Request) (word : List ℕ) : Type 0 where
   pub front : List ℕ
   pub back : List ℕ
-  pub told : Appends before.taken now.taken (front ++ ((row asked.usage).help ++ back))
-  pub named : IsNamedBy (row asked.usage).help word
+  pub told : Appends before.taken now.taken (front ++ (line_of asked.usage ++ back))
+  pub named : IsNamedBy (line_of asked.usage) word
+
+-- with a word behind it: that is a command's, and just what the help has of it alone was written
+pub record TellsCommand (before now : Outside) (word : List ℕ) : Type 0 where
+  pub command : Usage
+  pub word_is : (row command).word ≡ word
+  pub told : Appends before.taken now.taken (lines_of command)
 
 -- so of any words that ask for something
-abbrev pub HelpSays : Type 0
-HelpSays = (before now : Outside) (word : List ℕ) (words : List (List ℕ)) (asked : Request) (c : Cause)
-    → Ends before now (ask.asked usage.Help [] None unsaid) c → number_of c ≡ 0 → request_of (word ∷ words) ≡ Some asked → TellsUsage before now asked word
+pub record HelpSays : Type 0 where
+  pub all : (before now : Outside) (word : List ℕ) (words : List (List ℕ)) (asked : Request) (c : Cause)
+      → Ends before now (ask.asked usage.Help [] None unsaid) c → number_of c ≡ 0 → request_of (word ∷ words) ≡ Some asked → TellsUsage before now asked word
+  pub one : (before now : Outside) (word : List ℕ) (c : Cause) → Ends before now (question (request_of ((row usage.Help).word ∷ word ∷ []))) c → number_of c ≡ 0 → TellsCommand before now word
 
 -- `hold` with status 0: the timing of the second file is good on the artery of the first, and its weighted band is printed
 pub record SaysGood (before now : Outside) (artery timing : List ℕ) : Type 0 where

@@ -66,8 +66,9 @@ pub fn law_links_say()
     ensures { LinksSay }
 {}
 
-/// A law over the definitions: after status 0 of `--help` each usage has its line in what was written, so that none is missing there, and
-/// the line names the word by which its request is asked for.
+/// A law over the definitions: after status 0 of `--help` the command that any words ask for has its line in what was written, so that none
+/// is missing there, and the line begins with the first of these words; after status 0 of `--help` with a word that is a command's, and just
+/// what the help has of that command alone was written.
 pub fn law_help_says()
     ensures { HelpSays }
 {}

@@ -1,0 +1,7 @@
+use Rattle.std.proofs.Common.{◌≡◌, ◌++◌, flat_map, map, take}
+use Rattle.run_commands.specs.Pages.{name_text}
+use Rattle.run_commands.specs.Settings.{setting_label}
+use Rattle.run_commands.proofs.page.push_setting_names.Given as goal
+
+abbrev pub invariant-loop-setting : goal.invariant-loop-setting
+invariant-loop-setting l = l.out.items ≡ l.fn.out.items ++ flat_map name_text (map setting_label (take l.setting-index l.settings))
