@@ -70,7 +70,8 @@ some_claim a (Best value) timing t h good e = absurd cc
 some_claim a NoTiming timing t h good e = h t good
 some_claim a (Stopped bound value) timing t h good e = absurd cc
 
-module _ (Accepts : Street → Warrant → Type 0) (a : Street) (w : Warrant) (given : Option TimingRecord) (timing : TimingRecord) (claim : ℚ) (certified : IsCertified Accepts a w given timing claim) where
+module _ (Accepts : Street → Warrant → Type 0) (a : Street) (w : Warrant) (given : Option TimingRecord) (timing : TimingRecord) (claim : ℚ)
+    (certified : IsCertified Accepts a w given timing claim) where
   rounded : (plan : Rounded) (x : Found) → IsAnswer a claim timing plan → IsBestOfOffsets a plan.timing → number 0 ≤ℚ plan.loss
       → TellsRounded a plan x.cause x.lines.items (bytes_of x) → IsRounded Accepts a w given x.lines.items (timing_text plan.timing)
   rounded plan x answer best loss h = record {
@@ -95,7 +96,8 @@ module _ (a : Street) (w : Warrant) (given : Option TimingRecord) (timing : Timi
   pub from_told : (plan : Rounded) (r : Result Found Memory) → IsAnswer a claim timing plan → IsBestOfOffsets a plan.timing → number 0 ≤ℚ plan.loss
       → IfOk r (λ x. TellsRounded a plan x.cause x.lines.items (bytes_of x)) → IfOk r (λ x. RoundFromFinds a w given x.cause x.lines.items (bytes_of x))
   from_told plan (Ok x) answer best loss h =
-      subst (λ (c : Cause). RoundFromFinds a w given c x.lines.items (bytes_of x)) (sym h.cause_is) (timing_text plan.timing, h.put_is, rounded IsBound a w given timing claim certified plan x answer best loss h)
+      subst (λ (c : Cause). RoundFromFinds a w given c x.lines.items (bytes_of x)) (sym h.cause_is)
+      (timing_text plan.timing, h.put_is, rounded IsBound a w given timing claim certified plan x answer best loss h)
   from_told plan (Err m) answer best loss h = tt
 
   -- and of a timing that has none
