@@ -1,5 +1,6 @@
 -- How each command is asked that a law speaks of: with the names of its files, in their order, and its settings.
 use Rattle.std.specs.Prelude.{ℕ, List, [], ◌∷◌, Option, Some, None}
+use Rattle.description_reader.specs.declared.measure.Reference.{Reference}
 use Rattle.run_commands.specs.Settings.{Settings, unsaid}
 use Rattle.run_commands.specs.Words.{request}
 use Rattle.run_commands.specs.declared.table.Usage.{Usage}
@@ -50,8 +51,11 @@ half artery timing new = puts usage.Half (artery ∷ timing ∷ []) new unsaid
 abbrev pub timing : List ℕ → List ℕ → List ℕ → Question
 timing artery plan new = puts usage.TimingOf (artery ∷ plan ∷ []) new unsaid
 
-abbrev pub draw : List ℕ → List ℕ → List ℕ → Option (List ℕ) → Question
-draw artery timed drawing title = puts usage.Draw (artery ∷ timed ∷ []) drawing (record unsaid { title = title })
+abbrev pub draw : Option (List ℕ) → List ℕ → List ℕ → List ℕ → Question
+draw title artery timed drawing = puts usage.Draw (artery ∷ timed ∷ []) drawing (record unsaid { title = title })
+
+abbrev pub sheet : Reference → List ℕ → List ℕ → List ℕ → Question
+sheet reference artery timed table = puts usage.Sheet (artery ∷ timed ∷ []) table (record unsaid { reference = reference })
 
 abbrev pub sweep : List ℕ → List ℕ → Option ℕ → List (List ℕ) → Question
 sweep artery table limit cycles = puts usage.Sweep (artery ∷ []) table (record unsaid { limit = limit; cycles = cycles })
