@@ -51,6 +51,7 @@ line_named usage.RoundFrom = record { more = behind usage.RoundFrom; is = refl }
 line_named usage.Half = record { more = behind usage.Half; is = refl }
 line_named usage.TimingOf = record { more = behind usage.TimingOf; is = refl }
 line_named usage.Draw = record { more = behind usage.Draw; is = refl }
+line_named usage.Sheet = record { more = behind usage.Sheet; is = refl }
 line_named usage.Renew = record { more = behind usage.Renew; is = refl }
 line_named usage.Links = record { more = behind usage.Links; is = refl }
 line_named usage.CheckLinks = record { more = behind usage.CheckLinks; is = refl }
