@@ -4,6 +4,7 @@ use Rattle.std.specs.Prelude.{if◌then◌else◌}
 use Rattle.std.specs.Str.{bytes_eq}
 use Rattle.std.proofs.lemmas.Slice.Eq.{bytes_eq-Decides}
 use Rattle.run_commands.specs.declared.table.Usage.{Usage}
+use Rattle.run_commands.specs.Settings.{unsaid}
 use Rattle.run_commands.specs.Table.{row}
 use Rattle.run_commands.specs.Words.{named}
 use Rattle.outer_edge.specs.Taken.{Appends}
@@ -66,7 +67,7 @@ line_named usage.Version = record { more = behind usage.Version; is = refl }
 -- ---- what is written
 pub help_says : HelpSays
 help_says before now word words asked c h e k =
-    let f = found_done before now ask.help c e h in
+    let f = found_done before now (ask.asked usage.Help [] None unsaid) c e h in
     let by = asked_by word words asked k in
     let one = named_is_one USAGES word by.usage by.named_is in
     let l = around (λ u. (row u).help) USAGES by.usage one.0 in

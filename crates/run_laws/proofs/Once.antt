@@ -78,10 +78,6 @@ verdict_reached cause.NoTiming v = tt
 verdict_reached (cause.Stopped stop) v = tt
 verdict_reached c v = absurd v
 
-pub show_done : (a : Street) (c : Cause) (l : List ℕ) → Shows a c l → c ≡ cause.Done
-show_done a cause.Done l h = refl
-show_done a c l h = absurd h
-
 -- ---- each command
 hold_once : OneFirst → FailsRulesOut → (a : Street) (t : TimingRecord) (c d : Cause) (x y : List ℕ) → HoldFinds a t c x → HoldFinds a t d y → (c ≡ d) × (x ≡ y)
 hold_once one_first rules a t cause.Done cause.Done x y h k = (refl, h.1 ∙ sym k.1)

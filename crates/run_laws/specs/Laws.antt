@@ -32,6 +32,7 @@ use Rattle.run_inputs.specs.Reading.{Value, inputs, most_bytes, IsReadAs, Reads,
 use Rattle.run_inputs.specs.declared.reader.Reader.{Reader}
 use Rattle.run_inputs.specs.declared.reader.Reader.TheVariants.{Description, Timing, Certificate}
 use Rattle.run_commands.specs.Ends.{IsVerdict}
+use Rattle.run_commands.specs.Settings.{unsaid}
 use Rattle.run_commands.specs.Table.{row}
 use Rattle.run_commands.specs.Words.{Request, request_of}
 use Rattle.run_commands.specs.declared.table.Usage.{Usage}
@@ -82,8 +83,7 @@ Agree true (r ∷ rs) same verdicts = same ⊎ verdicts
 -- `trial`, that of a fault and that of want of memory comes exactly by its cause.
 abbrev pub AnswersAgree : (List ℕ → Option (List ℕ)) → (List ℕ → ℕ) → (List ℕ → ℕ) → Option Request → Question → Type 0
 AnswersAgree held before after asked q = (c d : Cause) (x y : List ℕ) (put other : Option NamedBytes) → AreTold held (inputs q.readers q.names) → IsReached c → IsReached d
-    → Answers held before after q c x put → Answers held before after q d y other
-    → Agree (chooses asked) q.readers (Same asked c x put d y other) (IsVerdict c × IsVerdict d)
+    → Answers held before after q c x put → Answers held before after q d y other → Agree (chooses asked) q.readers (Same asked c x put d y other) (IsVerdict c × IsVerdict d)
 
 abbrev pub OneAnswer : Type 0
 OneAnswer = (held : List ℕ → Option (List ℕ)) (before after : List ℕ → ℕ) (words : List (List ℕ)) → AnswersAgree held before after (request_of words) (question (request_of words))
@@ -91,8 +91,7 @@ OneAnswer = (held : List ℕ → Option (List ℕ)) (before after : List ℕ →
 -- ---- faults
 -- Unless the run ends by a fault no count has changed: each failed read, put and write is told.
 abbrev pub FaultsAreTold : Type 0
-FaultsAreTold = (before now : Outside) (asked : Option Request) (c : Cause)
-    → Ends before now (question asked) c → ¬ IsFault c
+FaultsAreTold = (before now : Outside) (asked : Option Request) (c : Cause) → Ends before now (question asked) c → ¬ IsFault c
     → SameCounts before.reads now.reads × SameCounts before.puts now.puts × (now.writes ≡ before.writes)
 
 -- A run that ends neither with a verdict nor by a failed put or write leaves every file that tells as it was.
@@ -227,7 +226,7 @@ pub record TellsUsage (before now : Outside) (asked : Request) (word : List ℕ)
 -- so of any words that ask for something
 abbrev pub HelpSays : Type 0
 HelpSays = (before now : Outside) (word : List ℕ) (words : List (List ℕ)) (asked : Request) (c : Cause)
-    → Ends before now ask.help c → number_of c ≡ 0 → request_of (word ∷ words) ≡ Some asked → TellsUsage before now asked word
+    → Ends before now (ask.asked usage.Help [] None unsaid) c → number_of c ≡ 0 → request_of (word ∷ words) ≡ Some asked → TellsUsage before now asked word
 
 -- `hold` with status 0: the timing of the second file is good on the artery of the first, and its weighted band is printed
 pub record SaysGood (before now : Outside) (artery timing : List ℕ) : Type 0 where
