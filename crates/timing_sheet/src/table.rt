@@ -1,6 +1,6 @@
 //! The table.
 
-ghost use Rattle.std.specs.{Prelude.{◌≡◌, ◌<◌, ◌≤◌, ◌++◌, IfOk, OnOk, length}, List.{flat_map, range_with_len}};
+ghost use Rattle.std.specs.{Prelude.{◌≡◌, ◌≤◌, ◌++◌, IfOk, OnOk, length}, List.{flat_map, range_with_len}};
 ghost use Rattle.progression.specs.Street.{count};
 ghost use Rattle.timing_sheet.specs.Records.{signal_heads, link_heads, head_text, record_text, sheet_text};
 
