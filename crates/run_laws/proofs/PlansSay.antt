@@ -32,7 +32,7 @@ use Rattle.run_commands.specs.Sought.{whole_bands}
 use Rattle.run_commands.specs.Checked.{whole_checked}
 use Rattle.run_laws.specs.Laws.{SaysRejected}
 use Rattle.run_laws.specs.PlanLaws.{SaysWidest, SaysNoBase, BandsSay, PutsHalf, SaysNoHalf, SaysHalf, SaysUnmatched, HalfSays, SaysUnplanned}
-use Rattle.run_laws.specs.PlanLaws.{SaysUnplannedFrom, PutsTyped, StopsTyped, SaysMiscounted, SaysTooFine, TimingSays, PutsMade, SaysUnshaped}
+use Rattle.run_laws.specs.PlanLaws.{SaysUnplannedFrom, PutsTyped, StopsTyped, SaysMiscounted, SaysTooFine, TimingSays, Tells, Makes, PutsMade, SaysUnshaped}
 use Rattle.run_laws.specs.PlanLaws.{SaysFailing, SaysUntimed, DrawSays, SheetSays, SaysCycle, PutsTable, SweepSays}
 use Rattle.run_inputs.specs.Status.{number_of, IsReached}
 use Rattle.run_inputs.specs.declared.cause.Cause.{Cause}
@@ -347,7 +347,7 @@ timing_says before now artery plan timing c h = (
 ten_apart : ◌≡◌ {A = ℕ} 10 4 → ⊥
 ten_apart e = omega (arith, e)
 
-module _ (before now : Outside) (artery timed new : List ℕ) (tells : Street → TimingRecord → Option Failing → List ℕ) (made : Street → TimingRecord → List ℕ) where
+module _ (before now : Outside) (artery timed new : List ℕ) (tells : Tells) (made : Makes) where
   -- what is found of the timing, where the file has one
   made_of : (a : Street) (o : Option TimingRecord) (l : List ℕ) (put : Option NamedBytes) (bytes : Option (List ℕ)) → put ≡ put_of (Some new) bytes → IsDone before now l put
       → Reads Description (before.holds artery) a → Reads Timed (before.holds timed) o

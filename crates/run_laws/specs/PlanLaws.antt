@@ -299,9 +299,17 @@ TimingIsBounded = (before now checked_before checked_now : Outside) (artery plan
     → IsWorthNoMore before now checked_before checked_now artery plan timing certificate
 
 -- ---- draw and sheet
+-- what lines tell of a timing of a street that breaks this rule first, or none
+abbrev pub Tells : Type 0
+Tells = Street → TimingRecord → Option Failing → List ℕ
+
+-- what is made of it
+abbrev pub Makes : Type 0
+Makes = Street → TimingRecord → List ℕ
+
 -- with status 0: the timing of the second file, good or not, has the number of signals of the artery of the first, and the file that is put holds, where it is told, what is made
 -- of it; what was told has the first rule that it breaks, where it breaks one
-pub record PutsMade (before now : Outside) (artery timed new : List ℕ) (tells : Street → TimingRecord → Option Failing → List ℕ) (made : Street → TimingRecord → List ℕ) : Type 0 where
+pub record PutsMade (before now : Outside) (artery timed new : List ℕ) (tells : Tells) (made : Makes) : Type 0 where
   pub street : Street
   pub timing : TimingRecord
   pub broken : Option Failing
@@ -331,7 +339,7 @@ pub record SaysUntimed (before now : Outside) (artery timed : List ℕ) (c : Cau
   pub kept : SameFiles before.holds now.holds
 
 -- what the statuses say of a command that is asked so, makes this of the timing and tells so of it
-abbrev pub MadeSays : (List ℕ → List ℕ → List ℕ → Question) → (Street → TimingRecord → Option Failing → List ℕ) → (Street → TimingRecord → List ℕ) → Type 0
+abbrev pub MadeSays : (List ℕ → List ℕ → List ℕ → Question) → Tells → Makes → Type 0
 MadeSays asks tells made = (before now : Outside) (artery timed new : List ℕ) (c : Cause) → Ends before now (asks artery timed new) c
     → (number_of c ≡ 0 → PutsMade before now artery timed new tells made)
     × (number_of c ≡ 4 → SaysUnshaped before now artery timed c)
