@@ -57,7 +57,9 @@ use Rattle.speed_steps.specs.declared.way.Way.{Way}
 use Rattle.speed_steps.specs.declared.way.Way.TheVariants.{Inwards, Outwards}
 use Rattle.run_commands.specs.Half.{ticks_line, end_line, HalfFinds}
 use Rattle.run_commands.specs.Typed.{measured_lines, WritesTiming, TypedFinds}
-use Rattle.run_commands.specs.Draw.{drawn_lines, DrawFinds}
+use Rattle.run_commands.specs.Shaped.{TimedFinds}
+use Rattle.run_commands.specs.Draw.{drawn_lines, picture_of}
+use Rattle.run_commands.specs.Sheet.{sheet_lines, table_of}
 use Rattle.run_commands.specs.Ends.{IsVerdict}
 use Rattle.run_commands.specs.Settings.{Settings}
 use Rattle.run_commands.specs.Table.{row, readers, Finds}
@@ -314,20 +316,21 @@ module _ (one : OneTiming) (one_first : OneFirst) (out : FailsRulesOut) (a : Str
       let e = sym (same_value (too_fine a p) h.ticks k.ticks h.first.1 k.first.1) in
       (h.cause_is ∙ ap cause.TooFine e ∙ sym k.cause_is, h.lines_are ∙ ap ticks_line e ∙ sym k.lines_are, h.no_put ∙ sym k.no_put)
 
-draw_once : OneFirst → FailsRulesOut → (a : Street) (o : Option TimingRecord) (title : Option (List ℕ)) (c d : Cause) (x y : List ℕ) (s u : Option (List ℕ))
-    → DrawFinds a o title c x s → DrawFinds a o title d y u → (c ≡ d) × (x ≡ y) × (s ≡ u)
-draw_once one_first rules a None title c d x y s u h k = (h.0 ∙ sym k.0, h.1 ∙ sym k.1, h.2 ∙ sym k.2)
-draw_once one_first rules a (Some t) title cause.Done cause.Done x y s u h k = (
-  refl,
-  h.2.lines_are ∙ (ap drawn_lines (judged_once one_first rules a t h.2.broken k.2.broken h.2.judged k.2.judged) ∙ sym k.2.lines_are),
-  h.1 ∙ ap Some (h.2.text_is ∙ sym k.2.text_is) ∙ sym k.1,
-)
-draw_once one_first rules a (Some t) title cause.Done (cause.Fails f) x y s u h k = absurd (k.1.fails h.2.shape)
-draw_once one_first rules a (Some t) title cause.Done d x y s u h k = absurd k
-draw_once one_first rules a (Some t) title (cause.Fails f) cause.Done x y s u h k = absurd (h.1.fails k.2.shape)
-draw_once one_first rules a (Some t) title (cause.Fails f) (cause.Fails g) x y s u h k = (ap cause.Fails (h.0 ∙ sym k.0), h.2 ∙ sym k.2, h.3 ∙ sym k.3)
-draw_once one_first rules a (Some t) title (cause.Fails f) d x y s u h k = absurd k
-draw_once one_first rules a (Some t) title c d x y s u h k = absurd h
+module _ (one_first : OneFirst) (rules : FailsRulesOut) (a : Street) (tells : TimingRecord → Option Failing → List ℕ) (made : TimingRecord → List ℕ) where
+  timed_once : (o : Option TimingRecord) (c d : Cause) (x y : List ℕ) (s u : Option (List ℕ))
+      → TimedFinds a tells made o c x s → TimedFinds a tells made o d y u → (c ≡ d) × (x ≡ y) × (s ≡ u)
+  timed_once None c d x y s u h k = (h.0 ∙ sym k.0, h.1 ∙ sym k.1, h.2 ∙ sym k.2)
+  timed_once (Some t) cause.Done cause.Done x y s u h k = (
+    refl,
+    h.2.lines_are ∙ (ap (tells t) (judged_once one_first rules a t h.2.broken k.2.broken h.2.judged k.2.judged) ∙ sym k.2.lines_are),
+    h.1 ∙ ap Some (h.2.text_is ∙ sym k.2.text_is) ∙ sym k.1,
+  )
+  timed_once (Some t) cause.Done (cause.Fails f) x y s u h k = absurd (k.1.fails h.2.shape)
+  timed_once (Some t) cause.Done d x y s u h k = absurd k
+  timed_once (Some t) (cause.Fails f) cause.Done x y s u h k = absurd (h.1.fails k.2.shape)
+  timed_once (Some t) (cause.Fails f) (cause.Fails g) x y s u h k = (ap cause.Fails (h.0 ∙ sym k.0), h.2 ∙ sym k.2, h.3 ∙ sym k.3)
+  timed_once (Some t) (cause.Fails f) d x y s u h k = absurd k
+  timed_once (Some t) c d x y s u h k = absurd h
 
 -- ---- what is put
 put_alike : (output s t : Option (List ℕ)) → s ≡ t → put_of output s ≡ put_of output t
@@ -393,7 +396,10 @@ module _ (one_text : OneText) (one_first : OneFirst) (rules : FailsRulesOut) (ap
     | inr e ↦ inr e
   ]
   finds_once usage.TimingOf n output v c d x y s t h k = alike usage.TimingOf output c d x y s t (typed_once one_timing one_first rules v.0 v.1.0 c d x y s t h k)
-  finds_once usage.Draw n output v c d x y s t h k = alike usage.Draw output c d x y s t (draw_once one_first rules v.0 v.1.0 n.title c d x y s t h k)
+  finds_once usage.Draw n output v c d x y s t h k =
+      alike usage.Draw output c d x y s t (timed_once one_first rules v.0 (λ p. drawn_lines) (picture_of v.0 n.title) v.1.0 c d x y s t h k)
+  finds_once usage.Sheet n output v c d x y s t h k =
+      alike usage.Sheet output c d x y s t (timed_once one_first rules v.0 (sheet_lines v.0) (table_of v.0 n.reference) v.1.0 c d x y s t h k)
   finds_once usage.Help n output v c d x y s t h k = told_once usage.Help c d x y s t (h.0 ∙ sym k.0, h.1 ∙ sym k.1)
   finds_once usage.Version n output v c d x y s t h k = told_once usage.Version c d x y s t (h.0 ∙ sym k.0, h.1 ∙ sym k.1)
   finds_once usage.Narrow n output v c d x y s t h k = alike usage.Narrow output c d x y s t (moved_once one_text Inwards v.0 c d x y s t h k)

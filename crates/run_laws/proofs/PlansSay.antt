@@ -1,4 +1,4 @@
--- What the statuses of `bands`, `half`, `timing`, `draw` and `sweep` say of the model, and those of `round` but 0.
+-- What the statuses of `bands`, `half`, `timing`, `draw`, `sheet` and `sweep` say of the model, and those of `round` but 0.
 use Rattle.std.proofs.Common.{◌≡◌, ◌⊎◌, ℕ, List, [], ◌∷◌, Option, Some, None, Ok, inl, inr, refl, sym, ◌∙◌, ap, subst, arith}
 use Rattle.std.specs.List.{AllZip}
 use Rattle.rational_theory.specs.Rational.{ℚ}
@@ -25,7 +25,9 @@ use Rattle.maxband_run.specs.Outside.{Outside, IsPut, IsDone}
 use Rattle.run_commands.specs.Half.{HasNoHalfPlan, IsHalfPlan}
 use Rattle.description_reader.specs.Typed.{Typed}
 use Rattle.run_commands.specs.Typed.{TypedFinds}
-use Rattle.run_commands.specs.Draw.{DrawFinds}
+use Rattle.run_commands.specs.Shaped.{TimedFinds}
+use Rattle.run_commands.specs.Draw.{drawn_lines, picture_of}
+use Rattle.run_commands.specs.Sheet.{sheet_lines, table_of}
 use Rattle.run_inputs.specs.Reading.{Reads}
 use Rattle.run_inputs.specs.declared.reader.Reader.TheVariants.{Description, Timed, TypedPlan}
 use Rattle.maxband_run.specs.Run.{Ends}
@@ -33,8 +35,8 @@ use Rattle.run_commands.specs.Sought.{whole_bands}
 use Rattle.run_commands.specs.Checked.{whole_checked}
 use Rattle.run_laws.specs.Laws.{SaysRejected}
 use Rattle.run_laws.specs.PlanLaws.{SaysWidest, SaysNoBase, BandsSay, PutsHalf, SaysNoHalf, SaysHalf, SaysUnmatched, HalfSays, SaysUnplanned}
-use Rattle.run_laws.specs.PlanLaws.{SaysUnplannedFrom, PutsTyped, StopsTyped, SaysMiscounted, SaysTooFine, TimingSays, PutsPicture, SaysUnshaped}
-use Rattle.run_laws.specs.PlanLaws.{SaysUnbound, SaysFailing, SaysUntimed, DrawSays, SaysCycle, PutsTable, SweepSays}
+use Rattle.run_laws.specs.PlanLaws.{SaysUnplannedFrom, PutsTyped, StopsTyped, SaysMiscounted, SaysTooFine, TimingSays, Tells, Makes, PutsMade, SaysUnshaped}
+use Rattle.run_laws.specs.PlanLaws.{SaysUnbound, SaysFailing, SaysUntimed, DrawSays, SheetSays, SaysCycle, PutsTable, SweepSays}
 use Rattle.run_inputs.specs.Status.{number_of, IsReached}
 use Rattle.run_inputs.specs.declared.cause.Cause.{Cause}
 use Rattle.run_inputs.specs.declared.cause.Cause.TheVariants as cause
@@ -348,17 +350,17 @@ timing_says before now artery plan timing c h = (
   (λ e. timing_eleven before now artery plan timing c e h),
 )
 
--- ---- draw
+-- ---- draw and sheet
 ten_apart : ◌≡◌ {A = ℕ} 10 4 → ⊥
 ten_apart e = omega (arith, e)
 
-module _ (before now : Outside) (artery timed picture : List ℕ) (title : Option (List ℕ)) where
+module _ (before now : Outside) (artery timed new : List ℕ) (tells : Tells) (made : Makes) where
   -- what is found of the timing, where the file has one
-  picture_of : (a : Street) (o : Option TimingRecord) (f : Found before now (ask.draw artery timed picture title) cause.Done)
+  made_of : (a : Street) (o : Option TimingRecord) (l : List ℕ) (put : Option NamedBytes) (bytes : Option (List ℕ)) → put ≡ put_of (Some new) bytes → IsDone before now l put
       → Reads Description (before.holds artery) a → Reads Timed (before.holds timed) o
-      → DrawFinds a o title cause.Done f.lines f.answer.bytes → PutsPicture before now artery timed picture title
-  picture_of a None f d r h = let e = h.0 in absurd cc
-  picture_of a (Some t) f d r h = record {
+      → TimedFinds a (tells a) (made a) o cause.Done l bytes → PutsMade before now artery timed new tells made
+  made_of a None l put bytes p done d r h = let e = h.0 in absurd cc
+  made_of a (Some t) l put bytes p done d r h = record {
     street = a;
     timing = t;
     broken = h.2.broken;
@@ -366,12 +368,12 @@ module _ (before now : Outside) (artery timed picture : List ℕ) (title : Optio
     text = r;
     shape = h.2.shape;
     judged = h.2.judged;
-    put = subst (λ (x : List ℕ). HoldsExactly (now.holds picture) x) h.2.text_is (is_put before now picture h.0 f.lines f.put f.answer.bytes f.answer.put_is h.1 f.done).0;
-    told = subst (λ (l : List ℕ). Appends before.taken now.taken l) h.2.lines_are f.done.written;
+    put = subst (λ (x : List ℕ). HoldsExactly (now.holds new) x) h.2.text_is (is_put before now new h.0 l put bytes p h.1 done).0;
+    told = subst (λ (m : List ℕ). Appends before.taken now.taken m) h.2.lines_are done.written;
   }
 
   unshaped_of : (a : Street) (o : Option TimingRecord) (c : Cause) (l : List ℕ) (bytes : Option (List ℕ)) → SameFiles before.holds now.holds
-      → Reads Description (before.holds artery) a → Reads Timed (before.holds timed) o → number_of c ≡ 4 → DrawFinds a o title c l bytes → SaysUnshaped before now artery timed c
+      → Reads Description (before.holds artery) a → Reads Timed (before.holds timed) o → number_of c ≡ 4 → TimedFinds a (tells a) (made a) o c l bytes → SaysUnshaped before now artery timed c
   unshaped_of a None c l bytes kept d r e h = absurd (ten_apart (sym (ap number_of h.0) ∙ e))
   unshaped_of a (Some t) (cause.Fails f) l bytes kept d r e h = record {
     street = a;
@@ -386,22 +388,36 @@ module _ (before now : Outside) (artery timed picture : List ℕ) (title : Optio
   unshaped_of a (Some t) c l bytes kept d r e h = absurd h
 
   untimed_of : (a : Street) (o : Option TimingRecord) (c : Cause) (l : List ℕ) (bytes : Option (List ℕ)) → SameFiles before.holds now.holds
-      → Reads Description (before.holds artery) a → Reads Timed (before.holds timed) o → number_of c ≡ 10 → DrawFinds a o title c l bytes → SaysUntimed before now artery timed c
+      → Reads Description (before.holds artery) a → Reads Timed (before.holds timed) o → number_of c ≡ 10 → TimedFinds a (tells a) (made a) o c l bytes → SaysUntimed before now artery timed c
   untimed_of a None c l bytes kept d r e h = record { street = a; description = d; text = r; cause_is = h.0; kept = kept }
   untimed_of a (Some t) cause.Done l bytes kept d r e h = absurd cc
   untimed_of a (Some t) (cause.Fails f) l bytes kept d r e h = absurd cc
   untimed_of a (Some t) c l bytes kept d r e h = absurd h
 
 pub draw_says : DrawSays
-draw_says before now artery timed picture title c h = (
-  (λ e. let f = found_done before now (ask.draw artery timed picture title) c e h in
-      picture_of before now artery timed picture title f.answer.values.0 f.answer.values.1.0 f f.answer.read.0 f.answer.read.1.0 f.answer.finds.finds),
-  (λ e. let f = found_four before now (ask.draw artery timed picture title) c e h in
-      unshaped_of before now artery timed picture title f.answer.values.0 f.answer.values.1.0 c f.lines f.answer.bytes
-      (found_keeps before now (ask.draw artery timed picture title) c (four_refuses c e) f f.answer.finds.answer) f.answer.read.0 f.answer.read.1.0 e f.answer.finds.finds),
-  (λ e. let f = found_ten before now (ask.draw artery timed picture title) c e h in
-      untimed_of before now artery timed picture title f.answer.values.0 f.answer.values.1.0 c f.lines f.answer.bytes
-      (found_keeps before now (ask.draw artery timed picture title) c (ten_refuses c e) f f.answer.finds.answer) f.answer.read.0 f.answer.read.1.0 e f.answer.finds.finds),
+draw_says title before now artery timed new c h = (
+  (λ e. let f = found_done before now (ask.draw title artery timed new) c e h in
+      made_of before now artery timed new (λ a t. drawn_lines) (λ a. picture_of a title) f.answer.values.0 f.answer.values.1.0 f.lines f.put f.answer.bytes f.answer.put_is f.done
+      f.answer.read.0 f.answer.read.1.0 f.answer.finds.finds),
+  (λ e. let f = found_four before now (ask.draw title artery timed new) c e h in
+      unshaped_of before now artery timed new (λ a t. drawn_lines) (λ a. picture_of a title) f.answer.values.0 f.answer.values.1.0 c f.lines f.answer.bytes
+      (found_keeps before now (ask.draw title artery timed new) c (four_refuses c e) f f.answer.finds.answer) f.answer.read.0 f.answer.read.1.0 e f.answer.finds.finds),
+  (λ e. let f = found_ten before now (ask.draw title artery timed new) c e h in
+      untimed_of before now artery timed new (λ a t. drawn_lines) (λ a. picture_of a title) f.answer.values.0 f.answer.values.1.0 c f.lines f.answer.bytes
+      (found_keeps before now (ask.draw title artery timed new) c (ten_refuses c e) f f.answer.finds.answer) f.answer.read.0 f.answer.read.1.0 e f.answer.finds.finds),
+)
+
+pub sheet_says : SheetSays
+sheet_says reference before now artery timed new c h = (
+  (λ e. let f = found_done before now (ask.sheet reference artery timed new) c e h in
+      made_of before now artery timed new sheet_lines (λ a. table_of a reference) f.answer.values.0 f.answer.values.1.0 f.lines f.put f.answer.bytes f.answer.put_is f.done
+      f.answer.read.0 f.answer.read.1.0 f.answer.finds.finds),
+  (λ e. let f = found_four before now (ask.sheet reference artery timed new) c e h in
+      unshaped_of before now artery timed new sheet_lines (λ a. table_of a reference) f.answer.values.0 f.answer.values.1.0 c f.lines f.answer.bytes
+      (found_keeps before now (ask.sheet reference artery timed new) c (four_refuses c e) f f.answer.finds.answer) f.answer.read.0 f.answer.read.1.0 e f.answer.finds.finds),
+  (λ e. let f = found_ten before now (ask.sheet reference artery timed new) c e h in
+      untimed_of before now artery timed new sheet_lines (λ a. table_of a reference) f.answer.values.0 f.answer.values.1.0 c f.lines f.answer.bytes
+      (found_keeps before now (ask.sheet reference artery timed new) c (ten_refuses c e) f f.answer.finds.answer) f.answer.read.0 f.answer.read.1.0 e f.answer.finds.finds),
 )
 
 -- ---- sweep

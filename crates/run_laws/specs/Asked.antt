@@ -1,5 +1,6 @@
 -- How each command is asked that a law speaks of: with the names of its files, in their order, and its settings.
 use Rattle.std.specs.Prelude.{ℕ, List, [], ◌∷◌, Option, Some, None}
+use Rattle.description_reader.specs.declared.measure.Reference.{Reference}
 use Rattle.run_commands.specs.Settings.{Settings, unsaid}
 use Rattle.run_commands.specs.Words.{request}
 use Rattle.run_commands.specs.declared.table.Usage.{Usage}
@@ -49,8 +50,11 @@ half artery timing new = asked usage.Half (artery ∷ timing ∷ []) (Some new) 
 abbrev pub timing : List ℕ → List ℕ → List ℕ → Question
 timing artery plan new = asked usage.TimingOf (artery ∷ plan ∷ []) (Some new) unsaid
 
-abbrev pub draw : List ℕ → List ℕ → List ℕ → Option (List ℕ) → Question
-draw artery timed drawing title = asked usage.Draw (artery ∷ timed ∷ []) (Some drawing) (record unsaid { title = title })
+abbrev pub draw : Option (List ℕ) → List ℕ → List ℕ → List ℕ → Question
+draw title artery timed drawing = asked usage.Draw (artery ∷ timed ∷ []) (Some drawing) (record unsaid { title = title })
+
+abbrev pub sheet : Reference → List ℕ → List ℕ → List ℕ → Question
+sheet reference artery timed table = asked usage.Sheet (artery ∷ timed ∷ []) (Some table) (record unsaid { reference = reference })
 
 abbrev pub sweep : List ℕ → List ℕ → Option ℕ → List (List ℕ) → Question
 sweep artery table limit cycles = asked usage.Sweep (artery ∷ []) (Some table) (record unsaid { limit = limit; cycles = cycles })

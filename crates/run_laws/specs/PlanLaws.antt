@@ -1,4 +1,4 @@
--- What the statuses of `bands`, `half`, `timing`, `round`, `draw` and `sweep` say of the model: statements about the definitions of a run, each of which a public call proves.
+-- What the statuses of `bands`, `half`, `timing`, `round`, `draw`, `sheet` and `sweep` say of the model: statements about the definitions of a run, each of which a public call proves.
 use Rattle.std.specs.Prelude.{◌≡◌, ◌≢◌, ◌⊎◌, ℕ, ◌-◌, ◌≤◌, List, [], ◌∷◌, ◌++◌, length, slice_index, codes, Option, None, Some, Ok, IsSome, IfSome}
 use Rattle.std.specs.List.{AllZip}
 use Rattle.rational_theory.specs.Rational.{ℚ, ◌+ℚ◌, ◌≤ℚ◌}
@@ -27,10 +27,10 @@ use Rattle.speed_steps.specs.declared.way.Way.{Way}
 use Rattle.speed_steps.specs.declared.way.Way.TheVariants.{Inwards, Outwards}
 use Rattle.description_reader.specs.Described.{Described}
 use Rattle.description_reader.specs.Typed.{Typed}
+use Rattle.description_reader.specs.declared.measure.Reference.{Reference}
 use Rattle.typed_plan.specs.Ends.{IsTimingOf, Refuses}
 use Rattle.typed_plan.specs.declared.timing.Measured.{Measured}
 use Rattle.typed_plan.specs.declared.timing.TypedFault.TheVariants as fault
-use Rattle.diagram_draw.specs.Pages.{drawing, svg_text}
 use Rattle.certificate_model.specs.Warrants.{Warrant}
 use Rattle.certificate_model.specs.declared.certificate.Claim.{Claim}
 use Rattle.certificate_model.specs.declared.certificate.Claim.TheVariants as claim
@@ -53,11 +53,12 @@ use Rattle.run_commands.specs.Half.{half_lines}
 use Rattle.run_commands.specs.Bound.{IsBound}
 use Rattle.run_commands.specs.Round.{plan_lines, Unplans}
 use Rattle.run_commands.specs.Narrow.{moved_lines}
-use Rattle.run_commands.specs.Draw.{drawn_lines}
+use Rattle.run_commands.specs.Draw.{drawn_lines, picture_of}
+use Rattle.run_commands.specs.Sheet.{sheet_lines, table_of}
 use Rattle.run_commands.specs.Sweep.{rows_line}
 use Rattle.run_commands.specs.Sought.{whole_bands}
 use Rattle.run_commands.specs.Checked.{whole_checked}
-use Rattle.maxband_run.specs.Run.{Ends}
+use Rattle.maxband_run.specs.Run.{Ends, Question}
 use Rattle.run_laws.specs.Laws.{SaysAccepted, SaysRejected}
 use Rattle.run_inputs.specs.Status.{number_of, IsReached}
 use Rattle.run_inputs.specs.declared.cause.Cause.{Cause}
@@ -336,10 +337,18 @@ TimingIsBounded = (before now checked_before checked_now : Outside) (artery plan
     → Ends before now (ask.timing artery plan timing) c → number_of c ≡ 0 → Ends checked_before checked_now (ask.check artery certificate) d → number_of d ≡ 0
     → IsWorthNoMore before now checked_before checked_now artery plan timing certificate
 
--- ---- draw
--- `draw` with status 0: the timing of the second file, good or not, has the number of signals of the artery of the first, and the file that is put holds, where it is told,
--- the picture of it; and where the timing isn't good the first rule that it breaks was told
-pub record PutsPicture (before now : Outside) (artery timed picture : List ℕ) (title : Option (List ℕ)) : Type 0 where
+-- ---- draw and sheet
+-- what lines tell of a timing of a street that breaks this rule first, or none
+abbrev pub Tells : Type 0
+Tells = Street → TimingRecord → Option Failing → List ℕ
+
+-- what is made of it
+abbrev pub Makes : Type 0
+Makes = Street → TimingRecord → List ℕ
+
+-- with status 0: the timing of the second file, good or not, has the number of signals of the artery of the first, and the file that is put holds, where it is told, what is made
+-- of it; what was told has the first rule that it breaks, where it breaks one
+pub record PutsMade (before now : Outside) (artery timed new : List ℕ) (tells : Tells) (made : Makes) : Type 0 where
   pub street : Street
   pub timing : TimingRecord
   pub broken : Option Failing
@@ -347,8 +356,8 @@ pub record PutsPicture (before now : Outside) (artery timed picture : List ℕ) 
   pub text : Reads Timed (before.holds timed) (Some timing)
   pub shape : length timing.patterns ≡ count street
   pub judged : IsJudged street timing broken
-  pub put : HoldsExactly (now.holds picture) (svg_text (drawing street timing title))
-  pub told : Appends before.taken now.taken (drawn_lines broken)
+  pub put : HoldsExactly (now.holds new) (made street timing)
+  pub told : Appends before.taken now.taken (tells street timing broken)
 
 -- with status 4: it has another number of signals
 pub record SaysUnshaped (before now : Outside) (artery timed : List ℕ) (c : Cause) : Type 0 where
@@ -368,11 +377,20 @@ pub record SaysUntimed (before now : Outside) (artery timed : List ℕ) (c : Cau
   pub cause_is : c ≡ cause.Untimed
   pub kept : SameFiles before.holds now.holds
 
-abbrev pub DrawSays : Type 0
-DrawSays = (before now : Outside) (artery timed picture : List ℕ) (title : Option (List ℕ)) (c : Cause) → Ends before now (ask.draw artery timed picture title) c
-    → (number_of c ≡ 0 → PutsPicture before now artery timed picture title)
+-- what the statuses say of a command that is asked so, makes this of the timing and tells so of it
+abbrev pub MadeSays : (List ℕ → List ℕ → List ℕ → Question) → Tells → Makes → Type 0
+MadeSays asks tells made = (before now : Outside) (artery timed new : List ℕ) (c : Cause) → Ends before now (asks artery timed new) c
+    → (number_of c ≡ 0 → PutsMade before now artery timed new tells made)
     × (number_of c ≡ 4 → SaysUnshaped before now artery timed c)
     × (number_of c ≡ 10 → SaysUntimed before now artery timed c)
+
+-- `draw` makes the picture of the timing, with the title where there is one
+abbrev pub DrawSays : Type 0
+DrawSays = (title : Option (List ℕ)) → MadeSays (ask.draw title) (λ a t. drawn_lines) (λ a. picture_of a title)
+
+-- `sheet` makes its table, counted from the moment that the reference names
+abbrev pub SheetSays : Type 0
+SheetSays = (reference : Reference) → MadeSays (ask.sheet reference) sheet_lines (λ a. table_of a reference)
 
 -- ---- sweep
 -- what is found at a cycle, and what its record says of the street

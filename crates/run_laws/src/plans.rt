@@ -1,6 +1,6 @@
 //! The laws of plans, bands, pictures and tables.
 
-ghost use Rattle.run_laws.specs.PlanLaws.{BandsSay, HalfSays, RoundSays, RoundFromSays, NarrowSays, WidenSays, TimingSays, TimingIsBounded, DrawSays};
+ghost use Rattle.run_laws.specs.PlanLaws.{BandsSay, HalfSays, RoundSays, RoundFromSays, NarrowSays, WidenSays, TimingSays, TimingIsBounded, DrawSays, SheetSays};
 ghost use Rattle.run_laws.specs.PlanLaws.{SweepSays, PlanIsHeld};
 
 /// A law over the definitions: after status 0 of `bands` the widest bands on the timing's offsets were printed, and after 4 a rule
@@ -75,6 +75,12 @@ pub fn law_timing_is_bounded()
 /// number of signals, and after 10 the file is a certificate without a timing, and no file has changed.
 pub fn law_draw_says()
     ensures { DrawSays }
+{}
+
+/// A law over the definitions: the same of `sheet`, whose file holds the table of the timing, and which tells the cycle, the bands and what
+/// `hold` says.
+pub fn law_sheet_says()
+    ensures { SheetSays }
 {}
 
 /// A law over the definitions: after status 0 of `sweep` the file that it put holds the table of its cycles, and each record says what
