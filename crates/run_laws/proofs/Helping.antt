@@ -57,6 +57,8 @@ line_named usage.Links = record { more = behind usage.Links; is = refl }
 line_named usage.CheckLinks = record { more = behind usage.CheckLinks; is = refl }
 line_named usage.Hold = record { more = behind usage.Hold; is = refl }
 line_named usage.Show = record { more = behind usage.Show; is = refl }
+line_named usage.Narrow = record { more = behind usage.Narrow; is = refl }
+line_named usage.Widen = record { more = behind usage.Widen; is = refl }
 line_named usage.Make = record { more = behind usage.Make; is = refl }
 line_named usage.Trial = record { more = behind usage.Trial; is = refl }
 line_named usage.Sweep = record { more = behind usage.Sweep; is = refl }
