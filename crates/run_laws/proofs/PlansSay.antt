@@ -206,7 +206,7 @@ module _ (before now : Outside) (artery certificate other plan : List ℕ) where
       → SaysUnbound before now artery certificate c ⊎ SaysFailing before now artery other c
   from_four apart rules (cause.Rejected r) e k =
       let h = k.answer.finds.finds.0 in
-      let other = k.answer.finds.finds.1 in
+      let widened = k.answer.finds.finds.1 in
       inl (record {
         rejected = record {
           street = k.answer.values.0;
@@ -219,7 +219,7 @@ module _ (before now : Outside) (artery certificate other plan : List ℕ) where
           cause_is = h.cause_is;
           kept = found_keeps before now (ask.round_from artery certificate other plan) (cause.Rejected r) (λ v. v) k k.answer.finds.answer;
         };
-        not_widened = apart (widen k.answer.values.0) k.answer.values.1.0 other.why other.first other.kept;
+        not_widened = apart (widen k.answer.values.0) k.answer.values.1.0 widened.why widened.first widened.kept;
       })
   from_four apart rules (cause.Fails f) e k =
       let h = k.answer.finds.finds in
