@@ -232,9 +232,9 @@ class Book:
         self.add(Definition(module, name, [name], comment_before(text, found.start()), body, "", file.path, "type"))
 
     def add_constants(self, file, crate, place, text):
-        """The constants of tuples and arrays, which specs/ may name."""
+        """The constants of tuples, arrays and texts, which specs/ may name."""
         module = f"Rattle.{crate}.specs.declared.{place}.TheConstants"
-        for found in re.finditer(r"(?ms)^pub const ([A-Z_]+): [^\n]* = [(\[]$.*?^[)\]];$", text):
+        for found in re.finditer(r"(?ms)^pub const ([A-Z_]+): [^\n]*? =\s+(?:[(\[]$.*?^[)\]];$|[(\"].*?[)\"];$)", text):
             own = self.files.setdefault(module, File(module, file.path))
             own.imports, own.aliases = file.imports, file.aliases
             self.add(Definition(module, found.group(1), [found.group(1)], comment_before(text, found.start()), found.group(0), "", file.path, "constant"))
