@@ -1,5 +1,5 @@
 -- What the words say that name no file, in the order of a command's row.
-use Rattle.std.specs.Prelude.{◌≡◌, ℕ, ◌≤◌, Bool, true, false, List, [], ◌∷◌, Option, Some, None, ◌&&◌, map, string_bytes, option_map, option_and_then, if◌then◌else◌, IfSome, IsTrue}
+use Rattle.std.specs.Prelude.{ℕ, ◌≤◌, Bool, true, false, List, [], ◌∷◌, Option, Some, None, ◌&&◌, map, string_bytes, option_map, option_and_then, if◌then◌else◌, IfSome, IsTrue}
 use Rattle.work_meter.specs.Work.{IsBelow}
 use Rattle.artery_model.specs.Bounds.{least_signals, most_first_signals}
 use Rattle.artery_model.specs.Limits.{is_name}
