@@ -232,12 +232,14 @@ class Book:
         self.add(Definition(module, name, [name], comment_before(text, found.start()), body, "", file.path, "type"))
 
     def add_constants(self, file, crate, place, text):
-        """The constants of tuples, arrays and texts, which specs/ may name."""
+        """The constants that specs/ name."""
         module = f"Rattle.{crate}.specs.declared.{place}.TheConstants"
+        named = {name for each in self.files.values() for there, name in each.imports.values() if there == module}
         for found in re.finditer(r"(?ms)^pub const ([A-Z_]+): [^\n]*? =\s+(?:[(\[]$.*?^[)\]];$|[(\"].*?[)\"];$)", text):
-            own = self.files.setdefault(module, File(module, file.path))
-            own.imports, own.aliases = file.imports, file.aliases
-            self.add(Definition(module, found.group(1), [found.group(1)], comment_before(text, found.start()), found.group(0), "", file.path, "constant"))
+            if found.group(1) in named:
+                own = self.files.setdefault(module, File(module, file.path))
+                own.imports, own.aliases = file.imports, file.aliases
+                self.add(Definition(module, found.group(1), [found.group(1)], comment_before(text, found.start()), found.group(0), "", file.path, "constant"))
 
     def find(self, module, name):
         """The definition that an import means, through files that hand it on."""

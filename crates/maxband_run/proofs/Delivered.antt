@@ -4,48 +4,29 @@ use Rattle.std.specs.Prelude.{option_map, IsSome}
 use Rattle.outer_edge.specs.Counts.{next_count, NoneFell, SameCounts, CountedAt}
 use Rattle.outer_edge.specs.Held.{SameFiles, OthersSame}
 use Rattle.outer_edge.specs.Taken.{Appends, AppendsFront}
-use Rattle.run_inputs.specs.Reading.{Values, inputs, IsRoomForFaults}
+use Rattle.run_inputs.specs.Reading.{inputs, IsRoomForFaults}
 use Rattle.run_inputs.specs.Puts.{NamedBytes, named, put_of}
 use Rattle.run_commands.specs.Words.{Request}
 use Rattle.maxband_run.specs.declared.finish.Put.{Put}
 use Rattle.maxband_run.specs.Outside.{put_view, Outside, IsPut, IsDone, IsUntouched, PutFailed, WriteFailed, IsBroken, OthersKept, PutsCounted}
 use Rattle.maxband_run.specs.Run.{Question, question, Answers, Ends}
-use Rattle.run_inputs.specs.Status.{IsOwnAnswer}
+use Rattle.run_inputs.specs.Status.{IsReached}
 use Rattle.run_inputs.specs.declared.cause.Cause.{Cause}
 use Rattle.run_inputs.specs.declared.cause.Cause.TheVariants as cause
 use Rattle.run_inputs.proofs.Stopped.{same_at, IsStop, stops_stop, stops_room}
+use Rattle.maxband_run.proofs.Reached.{finds_reached}
 
 -- ---- answers
 -- none is a failed write or want of memory
-abbrev IsAnswer : Cause → Type 0
-IsAnswer cause.WriteFault = ⊥
-IsAnswer cause.Memory = ⊥
-IsAnswer _ = Unit {0}
-
-stop_answer : (c : Cause) → IsStop c → IsAnswer c
-stop_answer cause.WriteFault h = h
-stop_answer cause.Memory h = h
-stop_answer c h = tt
-
-own_answer : (c : Cause) (b : Option (List ℕ)) → IsOwnAnswer c b → IsAnswer c
-own_answer cause.WriteFault b h = h
-own_answer cause.Memory b h = h
-own_answer c b h = tt
-
-finds_answer : (asked : Option Request) (v : Values (question asked).readers) (c : Cause) (l : List ℕ) (b : Option (List ℕ))
-    → (question asked).finds v (question asked).settings c l b → IsAnswer c
-finds_answer None v c l b h = subst IsAnswer (sym h.0) tt
-finds_answer (Some r) v c l b h = own_answer c b h.answer
-
 answer_cause : (held : List ℕ → Option (List ℕ)) (before after : List ℕ → ℕ) (asked : Option Request) (c : Cause) (lines : List ℕ) (put : Option NamedBytes)
-    → Answers held before after (question asked) c lines put → IsAnswer c
-answer_cause held before after asked c lines put (inl h) = stop_answer c (stops_stop held before after (inputs (question asked).readers (question asked).names) 1 c lines h.stops)
-answer_cause held before after asked c lines put (inr h) = finds_answer asked h.values c lines h.bytes h.finds
+    → Answers held before after (question asked) c lines put → IsStop c ⊎ IsReached c
+answer_cause held before after asked c lines put (inl h) = inl (stops_stop held before after (inputs (question asked).readers (question asked).names) 1 c lines h.stops)
+answer_cause held before after asked c lines put (inr h) = inr (finds_reached asked h.values c lines h.bytes h.finds)
 
 pub done_ends : (before now : Outside) (asked : Option Request) (c : Cause) (lines : List ℕ) (put : Option NamedBytes)
     → Answers before.holds before.reads now.reads (question asked) c lines put → IsDone before now lines put → Ends before now (question asked) c
-done_ends before now asked cause.WriteFault lines put h d = absurd (answer_cause before.holds before.reads now.reads asked cause.WriteFault lines put h)
-done_ends before now asked cause.Memory lines put h d = absurd (answer_cause before.holds before.reads now.reads asked cause.Memory lines put h)
+done_ends before now asked cause.WriteFault lines put h d = absurd (elim (answer_cause before.holds before.reads now.reads asked cause.WriteFault lines put h) [ inl k ↦ k | inr k ↦ k ])
+done_ends before now asked cause.Memory lines put h d = absurd (elim (answer_cause before.holds before.reads now.reads asked cause.Memory lines put h) [ inl k ↦ k | inr k ↦ k ])
 done_ends before now asked c lines put h d = (lines, put, h, d)
 
 -- ---- from the end of the reading on

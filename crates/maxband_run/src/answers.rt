@@ -41,6 +41,7 @@ fn words_answer(alloc: Global) -> Result<Found, Memory>
 }
 
 /// What a command finds with the names and the settings of the request, or why a file that it reads isn't read.
+#[tactic(auto, using(crate::proofs::Told::unread_by, crate::proofs::Told::wanting))]
 fn answer_of<C: Command, F: Files>(
     alloc: Global,
     request: Request<'_>,

@@ -1,5 +1,13 @@
-//! What each command of the program `maxband` finds in the values of its files, or makes of the numbers among its words, and tells of
-//! it: a cause, lines, and bytes for the one file that it may put. No command reads or puts a file itself. Each has a module.
+//! The commands of the program `maxband`: what its words ask for, and what each command finds in the values of its files, or makes of the
+//! settings among its words, and tells of it: a cause, lines, and bytes for the one file that it may put. No command reads or puts a
+//! file itself, nor knows a file's name.
+//!
+//! A command is a row and a type. Its row (`src/table.rt`) has its word, the kinds of the files that it reads, whether it may put one, the
+//! kinds of the words behind, and its line of the help. `request_in` reads words by the rows, and `specs/Words.antt` says so once for all:
+//! each request has as many names as its row has files, and settings in their limits (`IsFit`). Its type (`Command`) has the types that
+//! its files are read as, and `find`: what it finds of their values (`Finds` in `specs/Table.antt`, a line for each command), with which
+//! causes it ends (`IsOwnEnd`), and that these are answers of a command, of which no refusal puts anything (`IsOwnAnswer` of
+//! `run_inputs`). Each has a module.
 //!
 //! - `solve` (`specs/Solve.antt`): of the artery that the file describes an answer of the search with just the limit that the words
 //!   say, which may be none (`IsSearch` of `branch_tree`), and what follows for every good timing on any grid (`ProvesOf`). The

@@ -1,6 +1,6 @@
 //! What the words ask for.
 
-ghost use Rattle.std.specs.Prelude.{◌≡◌, length, map, option_map, string_bytes};
+ghost use Rattle.std.specs.Prelude.{◌≡◌, map, option_map, string_bytes};
 ghost use Rattle.run_inputs.specs.Reading.{inputs, IsRoomForFaults};
 ghost use Rattle.run_commands.specs.{Table.{readers}, Words.{view, named, with_output, asked_with, request_of}, Requested.{room_of}};
 

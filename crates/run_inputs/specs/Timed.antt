@@ -4,7 +4,6 @@ use Rattle.std.specs.List.{starts_with}
 use Rattle.progression.specs.TimingRecord.{TimingRecord}
 use Rattle.plan_text.specs.Spelling.{head_line}
 use Rattle.plan_text.specs.Reading.{timing_of}
-use Rattle.certificate_model.specs.Warrants.{Warrant}
 use Rattle.plan_text.specs.CertificateReading.{certificate_of}
 use Rattle.plan_text.specs.declared.fault.BadText.{BadText}
 
@@ -12,14 +11,11 @@ use Rattle.plan_text.specs.declared.fault.BadText.{BadText}
 abbrev pub is_timing : List ℕ → Bool
 is_timing bytes = starts_with nat_eq bytes (head_line ++ 10 ∷ [])
 
-abbrev pub some_timing : Result TimingRecord BadText → Result (Option TimingRecord) BadText
-some_timing (Ok t) = Ok (Some t)
-some_timing (Err b) = Err b
-
-abbrev pub timing_in : Result Warrant BadText → Result (Option TimingRecord) BadText
-timing_in (Ok w) = Ok w.timing
-timing_in (Err b) = Err b
+-- this of what is read
+abbrev pub of_read : {A B : Type 0} → (A → B) → Result A BadText → Result B BadText
+of_read f (Ok a) = Ok (f a)
+of_read f (Err b) = Err b
 
 -- the timing that it has, or that it is a certificate without one; what begins with neither first line is refused as a certificate
 abbrev pub timed_of : List ℕ → Result (Option TimingRecord) BadText
-timed_of bytes = if is_timing bytes then some_timing (timing_of bytes) else timing_in (certificate_of bytes)
+timed_of bytes = if is_timing bytes then of_read Some (timing_of bytes) else of_read (λ w. w.timing) (certificate_of bytes)
