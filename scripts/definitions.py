@@ -235,7 +235,7 @@ class Book:
         """The constants that specs/ name."""
         module = f"Rattle.{crate}.specs.declared.{place}.TheConstants"
         named = {name for each in self.files.values() for there, name in each.imports.values() if there == module}
-        for found in re.finditer(r"(?ms)^pub const ([A-Z_]+): [^\n]* = [(\[]$.*?^[)\]];$", text):
+        for found in re.finditer(r"(?ms)^pub const ([A-Z_]+): [^\n]*? =\s+(?:[(\[]$.*?^[)\]];$|[(\"].*?[)\"];$)", text):
             if found.group(1) in named:
                 own = self.files.setdefault(module, File(module, file.path))
                 own.imports, own.aliases = file.imports, file.aliases

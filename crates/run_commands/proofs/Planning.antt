@@ -1,5 +1,5 @@
 -- From what a plan's lines and text are to what is found.
-use Rattle.std.proofs.Common.{◌≡◌, ℕ, List, Option, Some, None, Result, Ok, Err, inr, refl, sym, ◌∙◌, ap, subst}
+use Rattle.std.proofs.Common.{◌≡◌, Option, Some, None, Result, Ok, Err, inr, refl, sym, ◌∙◌, ap, subst}
 use Rattle.rational_theory.specs.Rational.{ℚ, ◌≤ℚ◌}
 use Rattle.std.specs.Prelude.{IfOk, option_map}
 use Rattle.narrow_fraction.specs.declared.memory.Memory.{Memory}

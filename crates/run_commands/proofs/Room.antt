@@ -1,6 +1,5 @@
 -- Room for the lines of files that can't be read.
-use Rattle.std.proofs.Common.{◌≡◌, ℕ, ◌≤◌, List, [], ◌∷◌, max, map, arith}
-use Rattle.std.specs.Prelude.{string_bytes}
+use Rattle.std.proofs.Common.{◌≡◌, ℕ, ◌≤◌, List, [], ◌∷◌, arith}
 use Rattle.run_inputs.specs.Reading.{inputs, IsRoomForFaults}
 use Rattle.run_inputs.specs.declared.reader.Reader.{Reader}
 use Rattle.run_commands.specs.Requested.{room_of}

@@ -1,7 +1,7 @@
 -- The commands: the row of each, and what it finds.
 use Rattle.std.specs.Prelude.{ℕ, List, Option}
 use Rattle.run_inputs.specs.Puts.{With}
-use Rattle.run_inputs.specs.Reading.{Value, Values}
+use Rattle.run_inputs.specs.Reading.{Values}
 use Rattle.run_inputs.specs.Status.{IsOwnAnswer}
 use Rattle.run_inputs.specs.declared.cause.Cause.{Cause}
 use Rattle.run_inputs.specs.declared.reader.Reader.{Reader}

@@ -2,10 +2,9 @@
 use Rattle.std.proofs.Common.{◌≡◌, ℕ, ◌+◌, List, [], ◌∷◌, Option, inl, inr, ◌∙◌, subst}
 use Rattle.outer_edge.specs.declared.files.Files.{Ghosts}
 use Rattle.run_inputs.specs.declared.reader.Reader.{Reader}
-use Rattle.run_inputs.specs.Reading.{Value, Values, inputs, AreRead, WereRead, WasUnread, LeavesFiles, StopsReading}
+use Rattle.run_inputs.specs.Reading.{Value, Values, inputs, AreRead, WereRead, WasUnread, LeavesFiles}
 use Rattle.run_inputs.specs.declared.found.Unread.{Unread}
 use Rattle.run_inputs.specs.declared.found.Unread.TheVariants as stop
-use Rattle.run_inputs.specs.declared.cause.Cause.{Cause}
 use Rattle.run_inputs.proofs.Stopped.{stops_later, same_at}
 
 are_read_before : (rs : List Reader) (names : List (List ℕ)) (before mid : List ℕ → Option (List ℕ)) (v : Values rs) → mid ≡ before → AreRead rs names mid v → AreRead rs names before v

@@ -1,5 +1,5 @@
 -- The files that a command reads, one after the other. What a file holds is a function of its name, with the bytes where they are told.
-use Rattle.std.specs.Prelude.{◌≡◌, ◌⊎◌, ℕ, ◌+◌, ◌≤◌, List, [], ◌∷◌, length, Option, Some, None, IfOk, IfSome, IsSome, OnErr, Result, Ok, Err}
+use Rattle.std.specs.Prelude.{◌≡◌, ◌⊎◌, ℕ, ◌+◌, ◌≤◌, List, [], ◌∷◌, length, Option, None, IfOk, IfSome, IsSome, OnErr, Result, Ok, Err}
 use Rattle.narrow_fraction.specs.declared.memory.Memory.{Memory}
 use Rattle.outer_edge.specs.Counts.{NoneFell, SameCounts, CountedAt}
 use Rattle.outer_edge.specs.Held.{BeginsWith, SameFiles}
