@@ -89,7 +89,9 @@ base_line (Some base) = codes "weighted " ++ (exact_spelling base ++ (codes " = 
 abbrev pub rows_line : ℕ → List ℕ
 rows_line n = codes "rows " ++ (decimal n ++ codes "\n")
 
+-- of the street as it is
+abbrev pub first_lines : Option ℚ → List SensitivityRow → List ℕ
+first_lines base rows = verdict_line (first_outcome rows) ++ (base_line base ++ rows_line (length rows))
+
 abbrev pub sensitivity_lines : Street → List SensitivityRow → List ℕ
-sensitivity_lines a rows =
-    let base = base_of a rows in
-    verdict_line (first_outcome rows) ++ (base_line base ++ (rows_line (length rows) ++ flat_map (timed_line a base) (told base (all_timed a rows))))
+sensitivity_lines a rows = let base = base_of a rows in first_lines base rows ++ flat_map (timed_line a base) (told base (all_timed a rows))

@@ -60,11 +60,11 @@ pub(crate) fn push_signed(out: &mut Vec<u8>, value: Frac, places: u32) -> Result
 }
 
 /// Writes a number exactly, or `wide`.
-pub(crate) fn push_exact_or_wide(out: &mut Vec<u8>, value: Option<Frac>) -> Result<(), Memory>
-    ensures { OnOk result (out.new.items ≡ out.old.items ++ exact_or_wide value) }
+pub(crate) fn push_exact_or_wide(out: &mut Vec<u8>, value: &Option<Frac>) -> Result<(), Memory>
+    ensures { OnOk result (out.new.items ≡ out.old.items ++ exact_or_wide value.now) }
 {
     match value {
-        Some(value) => push_exact(out, value),
+        Some(value) => push_exact(out, *value),
         None => push_text(out, "wide"),
     }
 }
@@ -72,16 +72,16 @@ pub(crate) fn push_exact_or_wide(out: &mut Vec<u8>, value: Option<Frac>) -> Resu
 /// Writes a number as a decimal that is cut after so many places, or `wide`.
 pub(crate) fn push_decimal_or_wide(
     out: &mut Vec<u8>,
-    value: Option<Frac>,
+    value: &Option<Frac>,
     places: u32,
 ) -> Result<(), Memory>
-    requires denominator { IfSome value (λ x. x.den ≤ 2 ^ 120) }
+    requires denominator { IfSome value.now (λ x. x.den ≤ 2 ^ 120) }
     requires some_places { 1 ≤ places }
     requires most_places { places ≤ 9 }
-    ensures { OnOk result (out.new.items ≡ out.old.items ++ decimal_or_wide value places) }
+    ensures { OnOk result (out.new.items ≡ out.old.items ++ decimal_or_wide value.now places) }
 {
     match value {
-        Some(value) => push_signed(out, value, places),
+        Some(value) => push_signed(out, *value, places),
         None => push_text(out, "wide"),
     }
 }

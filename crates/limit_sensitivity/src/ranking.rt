@@ -16,7 +16,7 @@ use time_space::{Timing, value};
 use timing_measures::cycle_seconds;
 
 /// A change with the timing that was found.
-#[derive(Clone, Copy, Drop)]
+#[derive(Drop)]
 pub struct Timed {
     pub change: Change,
     /// Its weighted band.
@@ -32,6 +32,16 @@ fn timed_by(artery: &Artery, change: Change, timing: &Timing) -> Timed
         change,
         value: value(artery, timing),
         cycle: cycle_seconds(artery, timing),
+    }
+}
+
+fn copied(timed: &Timed) -> Timed
+    ensures { result ≡ timed.now }
+{
+    Timed {
+        change: timed.change,
+        value: timed.value,
+        cycle: timed.cycle,
     }
 }
 
@@ -100,7 +110,7 @@ fn ranked(alloc: Global, base: Frac, all: &[Timed]) -> Result<Vec<Timed>, Memory
     let mut list = Vec::new(alloc);
     for timed in all {
         if base < timed.value {
-            put(&mut list, *timed)?;
+            put(&mut list, copied(timed))?;
         }
     }
     Ok(list)
@@ -110,14 +120,14 @@ fn ranked(alloc: Global, base: Frac, all: &[Timed]) -> Result<Vec<Timed>, Memory
 pub(crate) fn told(
     alloc: Global,
     artery: &Artery,
-    base: Option<Frac>,
+    base: &Option<Frac>,
     rows: &[SensitivityRow],
 ) -> Result<Vec<Timed>, Memory>
-    ensures { IfOk result (λ list. list.items ≡ told base (all_timed artery.now rows.now)) }
+    ensures { IfOk result (λ list. list.items ≡ told base.now (all_timed artery.now rows.now)) }
 {
     let all = all_timed(alloc, artery, rows)?;
     match base {
-        Some(base) => ranked(alloc, base, all.as_slice()),
+        Some(base) => ranked(alloc, *base, all.as_slice()),
         None => Ok(all),
     }
 }
