@@ -103,7 +103,7 @@ class File:
 
 
 class Book:
-    """All definitions of specs/ and proofs/, the plain types of src/, the top calls, and what each file imports."""
+    """All definitions of specs/ and proofs/, the plain types and constants of src/, the top calls, and what each file imports."""
 
     def __init__(self, folders=("specs",)):
         self.files, self.definitions, self.types = {}, {}, {}
@@ -212,6 +212,7 @@ class Book:
             file.imports[each.group(2)] = ("type", (crate, each.group(2)))
         for each in found:
             self.add_type(file, crate, os.path.splitext(rest)[0].replace("/", "."), text, each)
+        self.add_constants(file, crate, os.path.splitext(rest)[0].replace("/", "."), text)
         for call in CALLS.get(crate, ()):
             head = re.search(rf"(?ms)^pub fn {call}<.*?^\{{", text)
             if head:
@@ -229,6 +230,16 @@ class Book:
         own.imports, own.aliases = file.imports, file.aliases
         self.types.setdefault(name, {})[crate] = module
         self.add(Definition(module, name, [name], comment_before(text, found.start()), body, "", file.path, "type"))
+
+    def add_constants(self, file, crate, place, text):
+        """The constants that specs/ name."""
+        module = f"Rattle.{crate}.specs.declared.{place}.TheConstants"
+        named = {name for each in self.files.values() for there, name in each.imports.values() if there == module}
+        for found in re.finditer(r"(?ms)^pub const ([A-Z_]+): [^\n]* = [(\[]$.*?^[)\]];$", text):
+            if found.group(1) in named:
+                own = self.files.setdefault(module, File(module, file.path))
+                own.imports, own.aliases = file.imports, file.aliases
+                self.add(Definition(module, found.group(1), [found.group(1)], comment_before(text, found.start()), found.group(0), "", file.path, "constant"))
 
     def find(self, module, name):
         """The definition that an import means, through files that hand it on."""

@@ -5,7 +5,8 @@ use Rattle.outer_edge.specs.Held.{SameFiles, OthersSame, HoldsExactly}
 use Rattle.outer_edge.specs.Taken.{Appends, AppendsFront}
 use Rattle.outer_edge.specs.declared.files.Files as files
 use Rattle.outer_edge.specs.declared.sink.Sink as sink
-use Rattle.run_inputs.specs.Puts.{NamedBytes}
+use Rattle.run_inputs.specs.Puts.{NamedBytes, named}
+use Rattle.maxband_run.specs.declared.finish.Put.{Put}
 
 -- what the files hold, how many reads and how many puts of each name have failed, what the output took, and how many writes have failed
 pub record Outside : Type 0 where
@@ -71,3 +72,7 @@ OthersKept (Some name) before now = OthersSame before now name
 abbrev pub PutsCounted : Option (List ℕ) → (List ℕ → ℕ) → (List ℕ → ℕ) → Type 0
 PutsCounted None before now = SameCounts before now
 PutsCounted (Some name) before now = NoneFell before now
+
+-- ---- in the code
+abbrev pub put_view : Put → NamedBytes
+put_view put = named put.name.now put.bytes.now

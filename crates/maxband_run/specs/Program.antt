@@ -6,9 +6,10 @@ use Rattle.std.specs.declared.io.ErrorKind.TheVariants.{OutOfMemory}
 use Rattle.outer_edge.specs.Counts.{NoneFell}
 use Rattle.outer_edge.specs.declared.files.Files as files
 use Rattle.outer_edge.specs.declared.sink.Sink as sink
-use Rattle.run_inputs.specs.Command.{request_of, shape}
+use Rattle.run_inputs.specs.Reading.{LeavesAlone}
+use Rattle.run_commands.specs.Words.{request_of}
 use Rattle.maxband_run.specs.Outside.{seen, OthersKept, PutsCounted}
-use Rattle.maxband_run.specs.Run.{Ends, LeavesAlone}
+use Rattle.maxband_run.specs.Run.{question, Ends}
 use Rattle.run_inputs.specs.Status.{number_of, no_words}
 use Rattle.run_inputs.specs.declared.cause.Cause.{Cause}
 use Rattle.run_inputs.specs.declared.cause.Cause.TheVariants as cause
@@ -17,13 +18,13 @@ use Rattle.run_inputs.specs.declared.cause.Cause.TheVariants as cause
 pub record ExitsBy {F K : Type 0} (f : files.Ghosts F) (k : sink.Ghosts K) (before after : F) (old new : K) (words : List (List ℕ)) (status : ℕ) : Type 0 where
   pub cause : Cause
   pub status_is : status ≡ number_of cause
-  pub ends : Ends (seen f k before old) (seen f k after new) (request_of words) cause
+  pub ends : Ends (seen f k before old) (seen f k after new) (question (request_of words)) cause
   -- in every case
-  pub files : OthersKept (shape (request_of words)).output (f.holds before) (f.holds after)
+  pub files : OthersKept (question (request_of words)).output (f.holds before) (f.holds after)
   pub reads : NoneFell (f.read_faults before) (f.read_faults after)
-  pub puts : PutsCounted (shape (request_of words)).output (f.put_faults before) (f.put_faults after)
+  pub puts : PutsCounted (question (request_of words)).output (f.put_faults before) (f.put_faults after)
   pub writes : k.faults old ≤ k.faults new
-  pub alone : LeavesAlone (shape (request_of words)).inputs (shape (request_of words)).output before after
+  pub alone : LeavesAlone (question (request_of words)).readers (question (request_of words)).output before after
 
 -- memory was wanting for the words: nothing was done
 pub record WantsMemory {F K : Type 0} (before after : F) (old new : K) (status : ℕ) : Type 0 where

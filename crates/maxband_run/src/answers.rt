@@ -1,350 +1,128 @@
 //! The answers of the commands: their files are read one after the other, and what is found of these is told.
 
-ghost use Rattle.std.specs.Prelude.{◌≡◌, Some, None, IfOk, map, option_map, string_bytes};
-ghost use Rattle.run_inputs.specs.{Lines.{words_line}, Reading.{LeavesFiles}};
-ghost use Rattle.run_inputs.specs.Command.{Hold, Show, Check, CheckLinks, Solve, Links, Renew, Bands, Round, RoundFrom, Half, TimingOf, Draw, Sweep, view, shape, InLimits};
-ghost use Rattle.maxband_run.specs.Run.{ended, IsAnswered, LeavesAlone};
+ghost use Rattle.std.specs.Prelude.{◌≡◌, ◌<◌, None, IfOk, IfSome, length, option_map};
+ghost use Rattle.run_inputs.specs.{Lines.{words_line}, Reading.{LeavesFiles, LeavesAlone}};
+ghost use Rattle.run_commands.specs.{Settings.{settings_view, InLimits}, Table.{readers}, Words.{view}, Requested.{IsFit}};
+ghost use Rattle.maxband_run.specs.Run.{ask, question, ended, IsAnswered};
 
 use narrow_fraction::Memory;
 use outer_edge::Files;
-use run_commands::bands::bands;
-use run_commands::check::check;
-use run_commands::check_links::check_links;
-use run_commands::draw::draw_timing;
-use run_commands::half::half_cycle;
-use run_commands::help::{help, version};
-use run_commands::hold::hold;
-use run_commands::links::links;
-use run_commands::make::make;
-use run_commands::renew::renew;
-use run_commands::round::{round, round_from};
-use run_commands::show::show;
-use run_commands::solve::solve;
-use run_commands::sweep::sweep;
-use run_commands::trial::trial;
-use run_commands::typed::typed_timing;
-use run_inputs::{
-    Answer, Cause, Command, Unread, read_both, read_one, read_three, told, words_line,
-};
+use run_commands::bands::Bands;
+use run_commands::check::Check;
+use run_commands::check_links::CheckLinks;
+use run_commands::draw::Draw;
+use run_commands::half::Half;
+use run_commands::help::{Help, Version};
+use run_commands::hold::Hold;
+use run_commands::links::Links;
+use run_commands::make::Make;
+use run_commands::renew::Renew;
+use run_commands::round::{Round, RoundFrom};
+use run_commands::show::Show;
+use run_commands::solve::Solve;
+use run_commands::sweep::Sweep;
+use run_commands::trial::Trial;
+use run_commands::typed::TimingOf;
+use run_commands::{Command, Request, Usage};
+use run_inputs::{Cause, Found, Inputs, Unread, told, words_line};
 use std::alloc::Global;
 
-/// The answer to words that are none of the usages.
-fn words_answer(alloc: Global) -> Result<Answer<'static>, Memory>
+/// The place of the first file that a command reads.
+const FIRST: u8 = 1;
+
+/// What is told of words that are none of the usages.
+fn words_answer(alloc: Global) -> Result<Found, Memory>
     ensures cause { IfOk result (λ a. a.cause ≡ Cause.Words) }
     ensures lines { IfOk result (λ a. a.lines.items ≡ words_line) }
-    ensures no_put { IfOk result (λ a. a.put ≡ None) }
+    ensures no_put { IfOk result (λ a. a.bytes ≡ None) }
 {
     let lines = words_line(alloc)?.into_bytes();
     Ok(told(Cause::Words, lines))
 }
 
-/// The answer of `hold`, or why a file that it takes isn't read.
-fn hold_answer<'a, F: Files>(
+/// What a command finds with the names and the settings of the request, or why a file that it reads isn't read.
+#[tactic(auto, using(crate::proofs::Told::unread_by, crate::proofs::Told::wanting))]
+fn answer_of<C: Command, F: Files>(
     alloc: Global,
+    request: Request<'_>,
     files: &mut F,
-    artery: &'a str,
-    timing: &'a str,
-) -> Result<Answer<'a>, Unread>
-    ensures answered { IsAnswered F.Files files.old files.new (Some (Hold artery.now timing.now)) (ended result) }
+) -> Result<Found, Unread>
+    requires names { length request.reads.now ≡ length (readers C.usage) }
+    requires few { length (readers C.usage) < 255 }
+    requires limits { InLimits (settings_view request.settings) }
+    ensures answered { IsAnswered F.Files files.old files.new (ask C.usage (view request.entry)) (ended result) }
     ensures kept { LeavesFiles F.Files files.old files.new }
+    ensures alone { LeavesAlone (readers C.usage) (option_map (λ name. name.now) request.entry.output) files.old files.new }
 {
-    let (street, plan) = read_both(alloc, files, artery, timing)?;
-    Ok(hold(alloc, &street, &plan)?)
+    let read = C::Reads::read(alloc, files, request.reads, FIRST)?;
+    let found = C::find(alloc, &read, &request.settings)?;
+    Ok(found)
 }
 
-/// The answer of `show`, or why a file that it takes isn't read.
-fn show_answer<'a, F: Files>(
+/// What the command of this usage finds so.
+fn answer_by<F: Files>(
     alloc: Global,
+    usage: Usage,
+    request: Request<'_>,
     files: &mut F,
-    artery: &'a str,
-) -> Result<Answer<'a>, Unread>
-    ensures answered { IsAnswered F.Files files.old files.new (Some (Show artery.now)) (ended result) }
+) -> Result<Found, Unread>
+    requires names { length request.reads.now ≡ length (readers usage) }
+    requires limits { InLimits (settings_view request.settings) }
+    ensures answered { IsAnswered F.Files files.old files.new (ask usage (view request.entry)) (ended result) }
     ensures kept { LeavesFiles F.Files files.old files.new }
+    ensures alone { LeavesAlone (readers usage) (option_map (λ name. name.now) request.entry.output) files.old files.new }
 {
-    let street = read_one(alloc, files, artery)?;
-    Ok(show(alloc, &street)?)
+    match usage {
+        Usage::Solve => answer_of::<Solve, F>(alloc, request, files),
+        Usage::Check => answer_of::<Check, F>(alloc, request, files),
+        Usage::Bands => answer_of::<Bands, F>(alloc, request, files),
+        Usage::Round => answer_of::<Round, F>(alloc, request, files),
+        Usage::RoundFrom => answer_of::<RoundFrom, F>(alloc, request, files),
+        Usage::Half => answer_of::<Half, F>(alloc, request, files),
+        Usage::TimingOf => answer_of::<TimingOf, F>(alloc, request, files),
+        Usage::Draw => answer_of::<Draw, F>(alloc, request, files),
+        Usage::Renew => answer_of::<Renew, F>(alloc, request, files),
+        Usage::Links => answer_of::<Links, F>(alloc, request, files),
+        Usage::CheckLinks => answer_of::<CheckLinks, F>(alloc, request, files),
+        Usage::Hold => answer_of::<Hold, F>(alloc, request, files),
+        Usage::Show => answer_of::<Show, F>(alloc, request, files),
+        Usage::Make => answer_of::<Make, F>(alloc, request, files),
+        Usage::Trial => answer_of::<Trial, F>(alloc, request, files),
+        Usage::Sweep => answer_of::<Sweep, F>(alloc, request, files),
+        Usage::Help => answer_of::<Help, F>(alloc, request, files),
+        Usage::Version => answer_of::<Version, F>(alloc, request, files),
+    }
 }
 
-/// The answer of `check`, or why a file that it takes isn't read.
-fn check_answer<'a, F: Files>(
+/// What is found of what the words ask for, or why a file isn't read.
+fn found<F: Files>(
     alloc: Global,
+    request: Option<Request<'_>>,
     files: &mut F,
-    artery: &'a str,
-    certificate: &'a str,
-) -> Result<Answer<'a>, Unread>
-    ensures answered { IsAnswered F.Files files.old files.new (Some (Check artery.now certificate.now)) (ended result) }
+) -> Result<Found, Unread>
+    requires { IfSome (option_map view request) IsFit }
+    ensures answered { IsAnswered F.Files files.old files.new (question (option_map view request.entry)) (ended result) }
     ensures kept { LeavesFiles F.Files files.old files.new }
+    ensures alone { LeavesAlone (question (option_map view request.entry)).readers (question (option_map view request.entry)).output files.old files.new }
 {
-    let (street, warrant) = read_both(alloc, files, artery, certificate)?;
-    Ok(check(alloc, &street, &warrant)?)
-}
-
-/// The answer of `check-links`, or why a file that it takes isn't read.
-fn check_links_answer<'a, F: Files>(
-    alloc: Global,
-    files: &mut F,
-    artery: &'a str,
-    certificate: &'a str,
-) -> Result<Answer<'a>, Unread>
-    ensures answered { IsAnswered F.Files files.old files.new (Some (CheckLinks artery.now certificate.now)) (ended result) }
-    ensures kept { LeavesFiles F.Files files.old files.new }
-{
-    let (street, warrant) = read_both(alloc, files, artery, certificate)?;
-    Ok(check_links(alloc, &street, &warrant)?)
-}
-
-/// The answer of `solve`, or why a file that it takes isn't read.
-fn solve_answer<'a, F: Files>(
-    alloc: Global,
-    files: &mut F,
-    artery: &'a str,
-    certificate: &'a str,
-    limit: Option<u64>,
-) -> Result<Answer<'a>, Unread>
-    requires { InLimits (Some (Solve artery.now certificate.now limit)) }
-    ensures answered { IsAnswered F.Files files.old files.new (Some (Solve artery.now certificate.now limit)) (ended result) }
-    ensures kept { LeavesFiles F.Files files.old files.new }
-{
-    let street = read_one(alloc, files, artery)?;
-    Ok(solve(alloc, &street, certificate, limit)?)
-}
-
-/// The answer of `links`, or why a file that it takes isn't read.
-fn links_answer<'a, F: Files>(
-    alloc: Global,
-    files: &mut F,
-    artery: &'a str,
-    certificate: &'a str,
-    limit: Option<u64>,
-) -> Result<Answer<'a>, Unread>
-    requires { InLimits (Some (Links artery.now certificate.now limit)) }
-    ensures answered { IsAnswered F.Files files.old files.new (Some (Links artery.now certificate.now limit)) (ended result) }
-    ensures kept { LeavesFiles F.Files files.old files.new }
-{
-    let street = read_one(alloc, files, artery)?;
-    Ok(links(alloc, &street, certificate, limit)?)
-}
-
-/// The answer of `renew`, or why a file that it takes isn't read.
-fn renew_answer<'a, F: Files>(
-    alloc: Global,
-    files: &mut F,
-    certificate: &'a str,
-    new: &'a str,
-) -> Result<Answer<'a>, Unread>
-    ensures answered { IsAnswered F.Files files.old files.new (Some (Renew certificate.now new.now)) (ended result) }
-    ensures kept { LeavesFiles F.Files files.old files.new }
-{
-    let warrant = read_one(alloc, files, certificate)?;
-    Ok(renew(alloc, &warrant, new)?)
-}
-
-/// The answer of `bands`, or why a file that it takes isn't read.
-fn bands_answer<'a, F: Files>(
-    alloc: Global,
-    files: &mut F,
-    artery: &'a str,
-    timing: &'a str,
-) -> Result<Answer<'a>, Unread>
-    ensures answered { IsAnswered F.Files files.old files.new (Some (Bands artery.now timing.now)) (ended result) }
-    ensures kept { LeavesFiles F.Files files.old files.new }
-{
-    let (street, plan) = read_both(alloc, files, artery, timing)?;
-    Ok(bands(alloc, &street, &plan)?)
-}
-
-/// The answer of `round`, or why a file that it takes isn't read.
-fn round_answer<'a, F: Files>(
-    alloc: Global,
-    files: &mut F,
-    artery: &'a str,
-    certificate: &'a str,
-    plan: &'a str,
-) -> Result<Answer<'a>, Unread>
-    ensures answered { IsAnswered F.Files files.old files.new (Some (Round artery.now certificate.now plan.now)) (ended result) }
-    ensures kept { LeavesFiles F.Files files.old files.new }
-{
-    let (street, warrant) = read_both(alloc, files, artery, certificate)?;
-    Ok(round(alloc, &street, &warrant, plan)?)
-}
-
-/// The answer of `round` with a timing to begin from, or why a file that it takes isn't read.
-fn round_from_answer<'a, F: Files>(
-    alloc: Global,
-    files: &mut F,
-    artery: &'a str,
-    certificate: &'a str,
-    file: &'a str,
-    plan: &'a str,
-) -> Result<Answer<'a>, Unread>
-    ensures answered { IsAnswered F.Files files.old files.new (Some (RoundFrom artery.now certificate.now file.now plan.now)) (ended result) }
-    ensures kept { LeavesFiles F.Files files.old files.new }
-{
-    let (street, warrant, timed) = read_three(alloc, files, artery, certificate, file)?;
-    Ok(round_from(alloc, &street, &warrant, &timed, plan)?)
-}
-
-/// The answer of `half`, or why a file that it takes isn't read.
-fn half_answer<'a, F: Files>(
-    alloc: Global,
-    files: &mut F,
-    artery: &'a str,
-    timing: &'a str,
-    new: &'a str,
-) -> Result<Answer<'a>, Unread>
-    ensures answered { IsAnswered F.Files files.old files.new (Some (Half artery.now timing.now new.now)) (ended result) }
-    ensures kept { LeavesFiles F.Files files.old files.new }
-{
-    let (street, plan) = read_both(alloc, files, artery, timing)?;
-    Ok(half_cycle(alloc, &street, &plan, new)?)
-}
-
-/// The answer of `timing`, or why a file that it takes isn't read.
-fn timing_answer<'a, F: Files>(
-    alloc: Global,
-    files: &mut F,
-    artery: &'a str,
-    file: &'a str,
-    timing: &'a str,
-) -> Result<Answer<'a>, Unread>
-    ensures answered { IsAnswered F.Files files.old files.new (Some (TimingOf artery.now file.now timing.now)) (ended result) }
-    ensures kept { LeavesFiles F.Files files.old files.new }
-{
-    let (street, typed) = read_both(alloc, files, artery, file)?;
-    Ok(typed_timing(alloc, &street, &typed, timing)?)
-}
-
-/// The answer of `draw`, or why a file that it takes isn't read.
-fn draw_answer<'a, F: Files>(
-    alloc: Global,
-    files: &mut F,
-    artery: &'a str,
-    file: &'a str,
-    drawing: &'a str,
-    title: Option<&'a str>,
-) -> Result<Answer<'a>, Unread>
-    ensures answered { IsAnswered F.Files files.old files.new (Some (Draw artery.now file.now drawing.now (option_map (λ word. word.now) title.entry))) (ended result) }
-    ensures kept { LeavesFiles F.Files files.old files.new }
-{
-    let (street, timed) = read_both(alloc, files, artery, file)?;
-    Ok(draw_timing(alloc, &street, &timed, title, drawing)?)
-}
-
-/// The answer of `sweep`, or why a file that it takes isn't read.
-fn sweep_answer<'a, F: Files>(
-    alloc: Global,
-    files: &mut F,
-    artery: &'a str,
-    table: &'a str,
-    limit: Option<u64>,
-    cycles: &'a [String],
-) -> Result<Answer<'a>, Unread>
-    requires { InLimits (Some (Sweep artery.now table.now limit (map string_bytes cycles.now))) }
-    ensures answered { IsAnswered F.Files files.old files.new (Some (Sweep artery.now table.now limit (map string_bytes cycles.now))) (ended result) }
-    ensures kept { LeavesFiles F.Files files.old files.new }
-{
-    let street = read_one(alloc, files, artery)?;
-    Ok(sweep(alloc, &street, table, limit, cycles)?)
-}
-
-/// The answer to what the words ask for, or why a file that it takes isn't read.
-fn found<'a, F: Files>(
-    alloc: Global,
-    command: Option<Command<'a>>,
-    files: &mut F,
-) -> Result<Answer<'a>, Unread>
-    requires { InLimits (option_map view command) }
-    ensures answered { IsAnswered F.Files files.old files.new (option_map view command.entry) (ended result) }
-    ensures kept { LeavesFiles F.Files files.old files.new }
-    ensures alone { LeavesAlone (shape (option_map view command.entry)).inputs (shape (option_map view command.entry)).output files.old files.new }
-{
-    match command {
-        Some(Command::Hold(artery, timing)) => hold_answer(alloc, files, artery, timing),
-        Some(Command::Show(artery)) => show_answer(alloc, files, artery),
-        Some(Command::Check(artery, certificate)) => check_answer(
-            alloc,
-            files,
-            artery,
-            certificate,
-        ),
-        Some(Command::CheckLinks(artery, certificate)) => check_links_answer(
-            alloc,
-            files,
-            artery,
-            certificate,
-        ),
-        Some(Command::Solve(artery, certificate, limit)) => solve_answer(
-            alloc,
-            files,
-            artery,
-            certificate,
-            limit,
-        ),
-        Some(Command::Links(artery, certificate, limit)) => links_answer(
-            alloc,
-            files,
-            artery,
-            certificate,
-            limit,
-        ),
-        Some(Command::Renew(certificate, new)) => renew_answer(alloc, files, certificate, new),
-        Some(Command::Bands(artery, timing)) => bands_answer(alloc, files, artery, timing),
-        Some(Command::Round(artery, certificate, plan)) => round_answer(
-            alloc,
-            files,
-            artery,
-            certificate,
-            plan,
-        ),
-        Some(Command::RoundFrom(artery, certificate, file, plan)) => round_from_answer(
-            alloc,
-            files,
-            artery,
-            certificate,
-            file,
-            plan,
-        ),
-        Some(Command::Half(artery, timing, new)) => half_answer(alloc, files, artery, timing, new),
-        Some(Command::TimingOf(artery, file, timing)) => timing_answer(
-            alloc, files, artery, file, timing,
-        ),
-        Some(Command::Draw(artery, file, drawing, title)) => draw_answer(
-            alloc, files, artery, file, drawing, title,
-        ),
-        Some(Command::Help) => Ok(help(alloc)?),
-        Some(Command::Version) => Ok(version(alloc)?),
-        Some(Command::Make { signals, seed }) => Ok(make(alloc, signals, seed)?),
-        Some(
-            Command::Trial {
-                signals,
-                seed,
-                limit,
-            },
-        ) => Ok(trial(alloc, signals, seed, limit)?),
-        Some(
-            Command::Sweep {
-                artery,
-                table,
-                limit,
-                cycles,
-            },
-        ) => sweep_answer(alloc, files, artery, table, limit, cycles),
+    match request {
+        Some(request) => answer_by(alloc, request.usage, request, files),
         None => Ok(words_answer(alloc)?),
     }
 }
 
 /// The answer to what the words ask for, or to a file that isn't read.
-pub fn answer_to<'a, F: Files>(
+pub fn answer_to<F: Files>(
     alloc: Global,
-    command: Option<Command<'a>>,
+    request: Option<Request<'_>>,
     files: &mut F,
-) -> Result<Answer<'a>, Memory>
-    requires { InLimits (option_map view command) }
-    ensures answered { IsAnswered F.Files files.old files.new (option_map view command.entry) result }
+) -> Result<Found, Memory>
+    requires { IfSome (option_map view request) IsFit }
+    ensures answered { IsAnswered F.Files files.old files.new (question (option_map view request.entry)) result }
     ensures kept { LeavesFiles F.Files files.old files.new }
-    ensures alone { LeavesAlone (shape (option_map view command.entry)).inputs (shape (option_map view command.entry)).output files.old files.new }
+    ensures alone { LeavesAlone (question (option_map view request.entry)).readers (question (option_map view request.entry)).output files.old files.new }
 {
-    match found(alloc, command, files) {
+    match found(alloc, request, files) {
         Ok(answer) => Ok(answer),
         Err(Unread::Told(answer)) => Ok(answer),
         Err(Unread::Memory) => Err(Memory),

@@ -17,8 +17,8 @@
 //! `RealFiles` and `RealOut` tell nothing of what they hold. So for the shipped program all this ties the exit status, and no printed
 //! byte.
 //!
-//! What the words ask for, which files that reads and as what, and why one of them isn't read stand in `run_inputs`; what each command
-//! finds in what was read, and tells of it, in `run_commands`. An answer is then one of two: the reading stops at a file
+//! What the words ask for, which files that reads and as what, what each command finds in what was read and tells of it stand in
+//! `run_commands`; how a file is read, and why it isn't, in `run_inputs`. An answer is then one of two: the reading stops at a file
 //! (`StopsReading`), or every file was read and the command finds its answer in their values (`Finds`, a line for each command).
 //!
 //! Each call that failed and was counted is told. A read that fails ends the run with that status, and is counted once, at its name

@@ -4,3 +4,6 @@ pub mod Pushed
 pub mod Shaped
 pub mod Tried
 pub mod Typing
+pub mod Room
+pub mod Limits
+pub mod Ending

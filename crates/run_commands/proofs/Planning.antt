@@ -23,26 +23,25 @@ use Rattle.second_plan.specs.declared.answer.PlanEnd.{PlanEnd}
 use Rattle.second_plan.specs.declared.answer.PlanEnd.TheVariants as end
 use Rattle.run_commands.specs.Round.{unplanned_line, IsCertified, IsRounded, Unplans, TellsRounded, RoundFinds, RoundFromFinds}
 use Rattle.run_inputs.specs.declared.cause.Cause.TheVariants as cause
-use Rattle.run_inputs.specs.Puts.{put_of, view}
+use Rattle.run_inputs.specs.Puts.{bytes_of}
 use Rattle.run_commands.specs.Half.{TellsPlan, HalfFinds}
-use Rattle.run_inputs.specs.declared.answer.Answer.{Answer}
+use Rattle.run_inputs.specs.declared.found.Found.{Found}
 use Rattle.run_inputs.specs.declared.cause.Cause.{Cause}
 
-half_found : (a : Street) (t plan : TimingRecord) (new : List ℕ) (x : Answer) → IsBase a t → IsReady a t → IsHalfCycleBest a t plan
-    → TellsPlan a plan new x.cause x.lines.items (option_map view x.put) → HalfFinds a t x.cause x.lines.items (Some (timing_text plan))
-half_found a t plan new x base ready best h =
-    subst (λ (c : Cause). HalfFinds a t c x.lines.items (Some (timing_text plan))) (sym h.cause_is)
+half_found : (a : Street) (t plan : TimingRecord) (x : Found) → IsBase a t → IsReady a t → IsHalfCycleBest a t plan
+    → TellsPlan a plan x.cause x.lines.items (bytes_of x) → HalfFinds a t x.cause x.lines.items (bytes_of x)
+half_found a t plan x base ready best h =
+    subst (λ (c : Cause). HalfFinds a t c x.lines.items (bytes_of x)) (sym h.cause_is)
     (record {
       base = base;
       ready = ready;
-      found = inr (timing_text plan, refl, record { plan = plan; best = best; lines_are = h.lines_are; written = refl; read_back = h.read_back });
+      found = inr (timing_text plan, h.put_is, record { plan = plan; best = best; lines_are = h.lines_are; written = refl; read_back = h.read_back });
     })
 
-pub half_told : (a : Street) (t plan : TimingRecord) (new : List ℕ) (r : Result Answer Memory) → IsBase a t → IsReady a t → IsHalfCycleBest a t plan
-    → IfOk r (λ x. TellsPlan a plan new x.cause x.lines.items (option_map view x.put))
-    → IfOk r (λ x. (bytes : Option (List ℕ)) × HalfFinds a t x.cause x.lines.items bytes × (option_map view x.put ≡ put_of (Some new) bytes))
-half_told a t plan new (Ok x) base ready best h = (Some (timing_text plan), half_found a t plan new x base ready best h, h.put_is)
-half_told a t plan new (Err m) base ready best h = tt
+pub half_told : (a : Street) (t plan : TimingRecord) (r : Result Found Memory) → IsBase a t → IsReady a t → IsHalfCycleBest a t plan
+    → IfOk r (λ x. TellsPlan a plan x.cause x.lines.items (bytes_of x)) → IfOk r (λ x. HalfFinds a t x.cause x.lines.items (bytes_of x))
+half_told a t plan (Ok x) base ready best h = half_found a t plan x base ready best h
+half_told a t plan (Err m) base ready best h = tt
 
 -- ---- round
 -- what a claim bounds
@@ -71,9 +70,9 @@ some_claim a NoTiming timing t h good e = h t good
 some_claim a (Stopped bound value) timing t h good e = absurd cc
 
 module _ (a : Street) (w : Warrant) (given : Option TimingRecord) (timing : TimingRecord) (claim : ℚ) (certified : IsCertified a w given timing claim) where
-  rounded : (plan : Rounded) (name : List ℕ) (x : Answer) → IsAnswer a claim timing plan → IsBestOfOffsets a plan.timing → number 0 ≤ℚ plan.loss
-      → TellsRounded a plan name x.cause x.lines.items (option_map view x.put) → IsRounded a w given x.lines.items (timing_text plan.timing)
-  rounded plan name x answer best loss h = record {
+  rounded : (plan : Rounded) (x : Found) → IsAnswer a claim timing plan → IsBestOfOffsets a plan.timing → number 0 ≤ℚ plan.loss
+      → TellsRounded a plan x.cause x.lines.items (bytes_of x) → IsRounded a w given x.lines.items (timing_text plan.timing)
+  rounded plan x answer best loss h = record {
     timing = timing;
     claim = claim;
     certified = certified;
@@ -91,45 +90,34 @@ module _ (a : Street) (w : Warrant) (given : Option TimingRecord) (timing : Timi
   unplans_of e h = (timing, claim, certified, h)
 
   -- what is found of a plan
-  pub from_told : (plan : Rounded) (name : List ℕ) (r : Result Answer Memory) → IsAnswer a claim timing plan → IsBestOfOffsets a plan.timing → number 0 ≤ℚ plan.loss
-      → IfOk r (λ x. TellsRounded a plan name x.cause x.lines.items (option_map view x.put))
-      → IfOk r (λ x. (bytes : Option (List ℕ)) × RoundFromFinds a w given x.cause x.lines.items bytes × (option_map view x.put ≡ put_of (Some name) bytes))
-  from_told plan name (Ok x) answer best loss h = (
-    Some (timing_text plan.timing),
-    subst (λ (c : Cause). RoundFromFinds a w given c x.lines.items (Some (timing_text plan.timing))) (sym h.cause_is) (timing_text plan.timing, refl, rounded plan name x answer best loss h),
-    h.put_is,
-  )
-  from_told plan name (Err m) answer best loss h = tt
+  pub from_told : (plan : Rounded) (r : Result Found Memory) → IsAnswer a claim timing plan → IsBestOfOffsets a plan.timing → number 0 ≤ℚ plan.loss
+      → IfOk r (λ x. TellsRounded a plan x.cause x.lines.items (bytes_of x)) → IfOk r (λ x. RoundFromFinds a w given x.cause x.lines.items (bytes_of x))
+  from_told plan (Ok x) answer best loss h =
+      subst (λ (c : Cause). RoundFromFinds a w given c x.lines.items (bytes_of x)) (sym h.cause_is) (timing_text plan.timing, h.put_is, rounded plan x answer best loss h)
+  from_told plan (Err m) answer best loss h = tt
 
   -- and of a timing that has none
-  pub from_unplanned : (e : PlanEnd) (name : List ℕ) (r : Result Answer Memory) → Ends a claim timing e
-      → IfOk r (λ x. x.cause ≡ cause.Unplanned e) → IfOk r (λ x. x.lines.items ≡ unplanned_line e) → IfOk r (λ x. x.put ≡ None)
-      → IfOk r (λ x. (bytes : Option (List ℕ)) × RoundFromFinds a w given x.cause x.lines.items bytes × (option_map view x.put ≡ put_of (Some name) bytes))
-  from_unplanned e name (Ok x) h c l n = (
-    None,
-    subst (λ (d : Cause). RoundFromFinds a w given d x.lines.items None) (sym c) (record { first = unplans_of e h; lines_are = l; no_put = refl }),
-    ap (option_map view) n,
-  )
-  from_unplanned e name (Err m) h c l n = tt
+  pub from_unplanned : (e : PlanEnd) (r : Result Found Memory) → Ends a claim timing e
+      → IfOk r (λ x. x.cause ≡ cause.Unplanned e) → IfOk r (λ x. x.lines.items ≡ unplanned_line e) → IfOk r (λ x. x.bytes ≡ None)
+      → IfOk r (λ x. RoundFromFinds a w given x.cause x.lines.items (bytes_of x))
+  from_unplanned e (Ok x) h c l n =
+      subst (λ (d : Cause). RoundFromFinds a w given d x.lines.items (bytes_of x)) (sym c)
+      (record { first = unplans_of e h; lines_are = l; no_put = ap (option_map (λ b. b.items)) n })
+  from_unplanned e (Err m) h c l n = tt
 
 -- of the certificate's own timing the same is found, but that it never breaks a rule
-own_round : (a : Street) (w : Warrant) (x : Answer) (bytes : Option (List ℕ)) (c : Cause) → x.cause ≡ c → RoundFinds a w c x.lines.items bytes → RoundFinds a w x.cause x.lines.items bytes
-own_round a w x bytes c e h = subst (λ (d : Cause). RoundFinds a w d x.lines.items bytes) (sym e) h
-
 module _ (a : Street) (w : Warrant) (timing : TimingRecord) (claim : ℚ) (certified : IsCertified a w w.timing timing claim) where
-  pub round_told : (plan : Rounded) (name : List ℕ) (r : Result Answer Memory) → IsAnswer a claim timing plan → IsBestOfOffsets a plan.timing → number 0 ≤ℚ plan.loss
-      → IfOk r (λ x. TellsRounded a plan name x.cause x.lines.items (option_map view x.put))
-      → IfOk r (λ x. (bytes : Option (List ℕ)) × RoundFinds a w x.cause x.lines.items bytes × (option_map view x.put ≡ put_of (Some name) bytes))
-  round_told plan name (Ok x) answer best loss h = (
-    Some (timing_text plan.timing),
-    own_round a w x (Some (timing_text plan.timing)) cause.Done h.cause_is (timing_text plan.timing, refl, rounded a w w.timing timing claim certified plan name x answer best loss h),
-    h.put_is,
-  )
-  round_told plan name (Err m) answer best loss h = tt
+  pub round_told : (plan : Rounded) (r : Result Found Memory) → IsAnswer a claim timing plan → IsBestOfOffsets a plan.timing → number 0 ≤ℚ plan.loss
+      → IfOk r (λ x. TellsRounded a plan x.cause x.lines.items (bytes_of x)) → IfOk r (λ x. RoundFinds a w x.cause x.lines.items (bytes_of x))
+  round_told plan (Ok x) answer best loss h =
+      subst (λ (c : Cause). RoundFinds a w c x.lines.items (bytes_of x)) (sym h.cause_is)
+      (timing_text plan.timing, h.put_is, rounded a w w.timing timing claim certified plan x answer best loss h)
+  round_told plan (Err m) answer best loss h = tt
 
-  pub unplanned_told : (e : PlanEnd) (name : List ℕ) (r : Result Answer Memory) → Ends a claim timing e
-      → IfOk r (λ x. x.cause ≡ cause.Unplanned e) → IfOk r (λ x. x.lines.items ≡ unplanned_line e) → IfOk r (λ x. x.put ≡ None)
-      → IfOk r (λ x. (bytes : Option (List ℕ)) × RoundFinds a w x.cause x.lines.items bytes × (option_map view x.put ≡ put_of (Some name) bytes))
-  unplanned_told e name (Ok x) h c l n =
-      (None, own_round a w x None (cause.Unplanned e) c (record { first = unplans_of a w w.timing timing claim certified e h; lines_are = l; no_put = refl }), ap (option_map view) n)
-  unplanned_told e name (Err m) h c l n = tt
+  pub unplanned_told : (e : PlanEnd) (r : Result Found Memory) → Ends a claim timing e
+      → IfOk r (λ x. x.cause ≡ cause.Unplanned e) → IfOk r (λ x. x.lines.items ≡ unplanned_line e) → IfOk r (λ x. x.bytes ≡ None)
+      → IfOk r (λ x. RoundFinds a w x.cause x.lines.items (bytes_of x))
+  unplanned_told e (Ok x) h c l n =
+      subst (λ (d : Cause). RoundFinds a w d x.lines.items (bytes_of x)) (sym c)
+      (record { first = unplans_of a w w.timing timing claim certified e h; lines_are = l; no_put = ap (option_map (λ b. b.items)) n })
+  unplanned_told e (Err m) h c l n = tt

@@ -5,12 +5,10 @@ use Rattle.progression.specs.TimingRecord.{TimingRecord}
 use Rattle.time_space.specs.FirstFailing.{IsFirstFailing}
 use Rattle.time_space.specs.declared.failing.Failing.{Failing}
 use Rattle.time_space.specs.declared.failing.Failing.TheVariants as failing
-use Rattle.second_plan.specs.declared.answer.PlanEnd.TheVariants as end
 use Rattle.diagram_draw.specs.Pages.{drawing, svg_text}
 use Rattle.run_inputs.specs.Puts.{With}
-use Rattle.run_commands.specs.Lines.{fails_line}
+use Rattle.run_commands.specs.Lines.{fails_line, untimed_line}
 use Rattle.run_commands.specs.Hold.{IsJudged}
-use Rattle.run_commands.specs.Round.{unplanned_line}
 use Rattle.run_inputs.specs.declared.cause.Cause.{Cause}
 use Rattle.run_inputs.specs.declared.cause.Cause.TheVariants as cause
 
@@ -35,7 +33,7 @@ TimingFinds a t title c lines put = ⊥
 
 -- nothing is drawn of a certificate without a timing
 abbrev pub NoneFinds : Cause → List ℕ → Option (List ℕ) → Type 0
-NoneFinds c lines put = (c ≡ cause.Unplanned end.NoTimingGiven) × (lines ≡ unplanned_line end.NoTimingGiven) × (put ≡ None)
+NoneFinds c lines put = (c ≡ cause.Untimed) × (lines ≡ untimed_line) × (put ≡ None)
 
 -- of the timing that the file has, where it has one
 abbrev pub DrawFinds : Street → Option TimingRecord → Option (List ℕ) → Cause → List ℕ → Option (List ℕ) → Type 0

@@ -15,7 +15,7 @@ use Rattle.half_integer.specs.Phases.{is_later}
 use Rattle.half_integer.specs.Answers.{IsReady, Ends}
 use Rattle.half_integer.specs.declared.end.HalfEnd.{HalfEnd}
 use Rattle.half_integer.specs.declared.end.HalfEnd.TheVariants as end
-use Rattle.run_inputs.specs.Puts.{NamedBytes, named, With}
+use Rattle.run_inputs.specs.Puts.{With}
 use Rattle.run_commands.specs.Bands.{BreaksBase}
 use Rattle.run_inputs.specs.declared.cause.Cause.{Cause}
 use Rattle.run_inputs.specs.declared.cause.Cause.TheVariants as cause
@@ -35,10 +35,14 @@ phase_lines a s = flat_map (phase_line a s) (range_with_len 1 (count a))
 abbrev pub half_lines : Street → TimingRecord → List ℕ
 half_lines a s = measure_line (codes "equal band") (band_share a s Outbound) 6 ++ phase_lines a s
 
+-- so many ticks, too many for a timing
+abbrev pub ticks_line : ℕ → List ℕ
+ticks_line n = codes "ticks " ++ (decimal n ++ codes "\n")
+
 abbrev pub end_line : HalfEnd → List ℕ
 end_line (end.Uneven i) = codes "uneven signal " ++ (decimal i ++ codes "\n")
 end_line (end.Unequal i) = codes "unequal link " ++ (decimal i ++ codes "\n")
-end_line (end.TooFine n) = codes "ticks " ++ (decimal n ++ codes "\n")
+end_line (end.TooFine n) = ticks_line n
 
 -- ---- the answer
 -- the widest equal bands over all offsets, and the text of the timing that has them, which is read back
@@ -49,11 +53,11 @@ pub record IsHalfPlan (a : Street) (t : TimingRecord) (lines text : List ℕ) : 
   pub written : text ≡ timing_text plan
   pub read_back : timing_of text ≡ Ok plan
 
--- its lines, and its text for the file of this name
-pub record TellsPlan (a : Street) (plan : TimingRecord) (new : List ℕ) (c : Cause) (lines : List ℕ) (put : Option NamedBytes) : Type 0 where
+-- its lines, and its text, which is put
+pub record TellsPlan (a : Street) (plan : TimingRecord) (c : Cause) (lines : List ℕ) (put : Option (List ℕ)) : Type 0 where
   pub cause_is : c ≡ cause.Done
   pub lines_are : lines ≡ half_lines a plan
-  pub put_is : put ≡ Some (named new (timing_text plan))
+  pub put_is : put ≡ Some (timing_text plan)
   pub read_back : timing_of (timing_text plan) ≡ Ok plan
 
 -- no offsets on any grid have equal bands, and nothing is put

@@ -1,5 +1,5 @@
 -- What `--help` and `--version` write.
-use Rattle.std.specs.Prelude.{◌≡◌, ℕ, ◌==◌, List, [], ◌∷◌, codes, if◌then◌else◌}
+use Rattle.std.specs.Prelude.{◌≡◌, ℕ, ◌==◌, List, [], ◌∷◌, ◌++◌, codes, flat_map, if◌then◌else◌}
 use Rattle.std.specs.Fmt.{decimal}
 use Rattle.artery_model.specs.Bounds.{first_version, second_version}
 use Rattle.description_reader.specs.KeyTable.{plan_version}
@@ -8,7 +8,7 @@ use Rattle.plan_text.specs.Spelling.{ended, head_line}
 use Rattle.plan_text.specs.CertificateText.{certificate_line}
 use Rattle.plan_text.specs.SecondText.{second_line}
 use Rattle.link_proof.specs.LinkWarrants.{links_line}
-use Rattle.run_commands.specs.Usages.{help_text}
+use Rattle.run_commands.specs.Rows.{Row}
 use Rattle.run_inputs.specs.declared.cause.Cause.{Cause}
 use Rattle.run_inputs.specs.declared.cause.Cause.TheVariants as cause
 
@@ -29,8 +29,16 @@ version_text =
     ∷ line_of (codes "certificates of links" ∷ format_of links_line ∷ [])
     ∷ [])
 
-abbrev pub HelpFinds : Cause → List ℕ → Type 0
-HelpFinds c lines = (c ≡ cause.Done) × (lines ≡ help_text)
+-- where the statuses are told
+unfoldable pub statuses_line : List ℕ
+statuses_line = codes "statuses and formats: man maxband, docs/FORMATS.md\n"
+
+-- the line of each command by its row, in this order
+abbrev pub help_text : {U : Type 0} → (U → Row) → List U → List ℕ
+help_text row usages = flat_map (λ u. (row u).help) usages ++ statuses_line
+
+abbrev pub HelpFinds : {U : Type 0} → (U → Row) → List U → Cause → List ℕ → Type 0
+HelpFinds row usages c lines = (c ≡ cause.Done) × (lines ≡ help_text row usages)
 
 abbrev pub VersionFinds : Cause → List ℕ → Type 0
 VersionFinds c lines = (c ≡ cause.Done) × (lines ≡ version_text)

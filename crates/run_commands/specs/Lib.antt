@@ -15,7 +15,12 @@ pub mod Half
 pub mod Typed
 pub mod Draw
 pub mod Make
-pub mod Usages
+pub mod Settings
+pub mod Rows
 pub mod Help
 pub mod Trial
 pub mod Sweep
+pub mod Ends
+pub mod Table
+pub mod Words
+pub mod Requested

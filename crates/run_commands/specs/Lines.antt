@@ -1,4 +1,4 @@
--- The lines of rules that are broken, and of a timing that holds.
+-- The lines of rules that are broken, of a timing that holds, and of a file without one.
 use Rattle.std.specs.Prelude.{ℕ, List, ◌++◌, codes}
 use Rattle.std.specs.Fmt.{decimal, signed_decimal}
 use Rattle.rational_theory.specs.Rational.{ℚ}
@@ -34,3 +34,7 @@ fails_line f = codes "fails " ++ (failing_text f ++ codes "\n")
 
 abbrev pub holds_lines : ℚ → List ℕ
 holds_lines value = codes "holds\nweighted " ++ (exact_spelling value ++ codes "\n")
+
+-- a certificate has no timing
+abbrev pub untimed_line : List ℕ
+untimed_line = codes "no plan timing\n"

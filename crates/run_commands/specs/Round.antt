@@ -23,8 +23,8 @@ use Rattle.second_plan.specs.Ends.{Ends}
 use Rattle.second_plan.specs.declared.answer.Plan.{Plan as Rounded}
 use Rattle.second_plan.specs.declared.answer.PlanEnd.{PlanEnd}
 use Rattle.second_plan.specs.declared.answer.PlanEnd.TheVariants as end
-use Rattle.run_inputs.specs.Puts.{NamedBytes, named, With}
-use Rattle.run_commands.specs.Lines.{failing_text, fails_line}
+use Rattle.run_inputs.specs.Puts.{With}
+use Rattle.run_commands.specs.Lines.{failing_text, fails_line, untimed_line}
 use Rattle.run_commands.specs.Sought.{whole_bands}
 use Rattle.run_commands.specs.Checked.{whole_checked}
 use Rattle.run_commands.specs.Check.{Rejects}
@@ -53,7 +53,7 @@ abbrev pub wide_line : Wide → List ℕ
 wide_line w = codes "no plan wide " ++ (exact_spelling w.left ++ (codes " " ++ (exact_spelling w.right ++ codes "\n")))
 
 abbrev pub unplanned_line : PlanEnd → List ℕ
-unplanned_line end.NoTimingGiven = codes "no plan timing\n"
+unplanned_line end.NoTimingGiven = untimed_line
 unplanned_line end.NoWholeCycle = codes "no plan cycle\n"
 unplanned_line (end.TooFine ticks) = codes "no plan ticks " ++ (decimal ticks ++ codes "\n")
 unplanned_line (end.NoLine d) = codes "no plan line " ++ (dir_name d ++ codes "\n")
@@ -116,9 +116,9 @@ RoundFromFinds a w given (cause.Fails f) lines put = IsUnfit a w given f lines p
 RoundFromFinds a w given (cause.Unplanned e) lines put = IsUnplanned a w given e lines put
 RoundFromFinds a w given c lines put = ⊥
 
--- the lines of a plan, and its text for the file of this name
-pub record TellsRounded (a : Street) (plan : Rounded) (name : List ℕ) (c : Cause) (lines : List ℕ) (put : Option NamedBytes) : Type 0 where
+-- the lines of a plan, and its text, which is put
+pub record TellsRounded (a : Street) (plan : Rounded) (c : Cause) (lines : List ℕ) (put : Option (List ℕ)) : Type 0 where
   pub cause_is : c ≡ cause.Done
   pub lines_are : lines ≡ plan_lines a plan.seconds plan.offsets.items plan.timing plan.loss
-  pub put_is : put ≡ Some (named name (timing_text plan.timing))
+  pub put_is : put ≡ Some (timing_text plan.timing)
   pub read_back : timing_of (timing_text plan.timing) ≡ Ok plan.timing

@@ -9,7 +9,9 @@ use Rattle.link_theory.specs.LinkRecord.{LinkRecord}
 use Rattle.link_theory.specs.GoodLinks.{GoodLinks}
 use Rattle.link_theory.specs.BestLinks.{link_value, BestLinks, BoundedLinks, NoLinks}
 use Rattle.certificate_model.specs.declared.certificate.Claim.{Claim}
-use Rattle.run_inputs.specs.Reading.{Reader, Certificate, LinkCertificate, Value}
+use Rattle.run_inputs.specs.Reading.{Value}
+use Rattle.run_inputs.specs.declared.reader.Reader.{Reader}
+use Rattle.run_inputs.specs.declared.reader.Reader.TheVariants.{Certificate, LinkCertificate}
 
 pub record Sought : Type 1 where
   pub reader : Reader  -- of its certificates

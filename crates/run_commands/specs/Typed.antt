@@ -7,7 +7,6 @@ use Rattle.artery_model.specs.declared.kind.Refusal.{Refusal}
 use Rattle.plan_text.specs.Spelling.{timing_text}
 use Rattle.plan_text.specs.Reading.{timing_of}
 use Rattle.diagram_print.specs.Measures.{weighted_line}
-use Rattle.half_integer.specs.declared.end.HalfEnd.TheVariants as end
 use Rattle.description_reader.specs.Typed.{Typed}
 use Rattle.typed_plan.specs.Ends.{IsTimingOf, Refuses}
 use Rattle.time_space.specs.declared.failing.Failing.{Failing}
@@ -16,7 +15,7 @@ use Rattle.typed_plan.specs.declared.timing.TypedFault.TheVariants as fault
 use Rattle.run_inputs.specs.Puts.{With}
 use Rattle.run_inputs.specs.Lines.{refused_line}
 use Rattle.run_commands.specs.Bands.{widest_line}
-use Rattle.run_commands.specs.Half.{end_line}
+use Rattle.run_commands.specs.Half.{ticks_line}
 use Rattle.run_commands.specs.Hold.{IsJudged, verdict_line}
 use Rattle.run_inputs.specs.declared.cause.Cause.{Cause}
 use Rattle.run_inputs.specs.declared.cause.Cause.TheVariants as cause
@@ -56,8 +55,8 @@ pub record IsMiscounted (a : Street) (p : Typed) (c : Cause) (lines : List ℕ) 
 pub record IsTooFine (a : Street) (p : Typed) (c : Cause) (lines : List ℕ) (put : Option (List ℕ)) : Type 0 where
   pub ticks : ℕ
   pub first : Refuses a p (fault.TooFine ticks)
-  pub cause_is : c ≡ cause.Unmatched (end.TooFine ticks)
-  pub lines_are : lines ≡ end_line (end.TooFine ticks)
+  pub cause_is : c ≡ cause.TooFine ticks
+  pub lines_are : lines ≡ ticks_line ticks
   pub no_put : put ≡ None
 
 abbrev pub TypedFinds : Street → Typed → Cause → List ℕ → Option (List ℕ) → Type 0

@@ -1,18 +1,23 @@
 //! The command `bands`.
 
-ghost use Rattle.std.specs.Prelude.{◌≡◌, ◌++◌, ◌<◌, None, Some, IfOk, IfSome, OnOk, codes};
+ghost use Rattle.std.specs.Prelude.{◌≡◌, ◌++◌, ◌<◌, None, Some, IfOk, IfSome, OnOk, codes, refl};
 ghost use Rattle.progression.specs.{TimingRecord.{cycle}, Good.{IsBase}};
 ghost use Rattle.diagram_print.specs.Measures.{dir_name};
+ghost use Rattle.run_inputs.specs.{Puts.{bytes_of}, Status.{IsOwnAnswer}};
 ghost use Rattle.run_commands.specs.Bands.{widest_line, IsMeasured, BandsFinds};
+ghost use Rattle.run_commands.specs.Ends.{IsTestEnd};
+ghost use Rattle.run_commands.specs.declared.table.Usage.TheVariants as usage;
 
+use crate::command::Command;
 use crate::hold::fails;
 use crate::lines::push_number_line;
+use crate::settings::Settings;
 use artery_model::{Artery, Dir};
 use band_measure::{Widest, base_holds, widest};
 use diagram_print::{dir_name, push_measure};
 use narrow_fraction::Memory;
 use quantity_text::push_text;
-use run_inputs::{Answer, Cause, told};
+use run_inputs::{Cause, Found, told};
 use std::alloc::Global;
 use time_space::{Timing, cycle};
 use timing_measures::quotient;
@@ -86,13 +91,34 @@ pub fn measured(alloc: Global, artery: &Artery, timing: &Timing) -> Result<Vec<u
 
 /// Measures the greatest band of each direction on the offsets of the timing, whatever its firsts and bands: where it keeps the rules
 /// that speak of no band, else the answer has the first of these that it breaks.
-pub fn bands(alloc: Global, artery: &Artery, timing: &Timing) -> Result<Answer<'static>, Memory>
+fn measure_bands(alloc: Global, artery: &Artery, timing: &Timing) -> Result<Found, Memory>
     ensures finds { IfOk result (λ a. BandsFinds artery.now timing.now a.cause a.lines.items) }
-    ensures no_put { IfOk result (λ a. a.put ≡ None) }
+    ensures ends { IfOk result (λ a. IsTestEnd a.cause) }
+    ensures answer { IfOk result (λ a. IsOwnAnswer a.cause (bytes_of a)) }
 {
     if let Err(failing) = base_holds(artery, timing) {
         return fails(alloc, failing);
     }
     let lines = measured(alloc, artery, timing)?;
     Ok(told(Cause::Done, lines))
+}
+
+/// The command `bands`.
+pub struct Bands;
+
+impl Command for Bands {
+    type Reads = (Artery, (Timing, ()));
+
+    ghost usage = { usage.Bands };
+
+    fn find(
+        alloc: Global,
+        read: &(Artery, (Timing, ())),
+        _settings: &Settings<'_>,
+    ) -> Result<Found, Memory> {
+        let (artery, (timing, ())) = read;
+        measure_bands(alloc, artery, timing)
+    }
+
+    ghost same = { refl };
 }

@@ -1,19 +1,21 @@
 //! The command `draw`.
 
-ghost use Rattle.std.specs.Prelude.{◌≡◌, IfOk, length, option_map};
+ghost use Rattle.std.specs.Prelude.{◌≡◌, None, IfOk, length, option_map, refl};
 ghost use Rattle.progression.specs.Street.{count};
-ghost use Rattle.run_inputs.specs.Puts.{MayPut};
-ghost use Rattle.run_commands.specs.Draw.{drawn_lines, TimingFinds, DrawFinds};
+ghost use Rattle.run_inputs.specs.{Puts.{bytes_of}, Status.{IsOwnAnswer}};
+ghost use Rattle.run_commands.specs.{Lines.{untimed_line}, Draw.{drawn_lines, TimingFinds, DrawFinds}};
+ghost use Rattle.run_commands.specs.Ends.{IsDrawingEnd};
+ghost use Rattle.run_commands.specs.declared.table.Usage.TheVariants as usage;
 
+use crate::command::Command;
 use crate::hold::{broken, fails};
-use crate::lines::push_failing_line;
-use crate::round::unplanned;
+use crate::lines::{UNTIMED, push_failing_line, text_lines};
+use crate::settings::Settings;
 use artery_model::Artery;
 use diagram_draw::draw;
 use narrow_fraction::Memory;
 use quantity_text::push_text;
-use run_inputs::{Answer, Cause, Put, Timed};
-use second_plan::PlanEnd;
+use run_inputs::{Cause, Found, Timed, told};
 use std::alloc::Global;
 use time_space::{Failing, Timing};
 
@@ -30,59 +32,89 @@ fn drawn_lines(alloc: Global, broken: Option<Failing>) -> Result<Vec<u8>, Memory
 }
 
 /// Draws a timing with as many signals as the artery has.
-fn draw_shaped<'a>(
+fn draw_shaped(
     alloc: Global,
     artery: &Artery,
     timing: &Timing,
     title: Option<&str>,
-    drawing: &'a str,
-) -> Result<Answer<'a>, Memory>
+) -> Result<Found, Memory>
     requires { length timing.now.patterns ≡ count artery.now }
-    ensures finds { MayPut drawing.now (TimingFinds artery.now timing.now (option_map (λ word. word.now) title.entry)) result }
+    ensures finds { IfOk result (λ a. TimingFinds artery.now timing.now (option_map (λ word. word.now) title.entry) a.cause a.lines.items (bytes_of a)) }
+    ensures ends { IfOk result (λ a. IsDrawingEnd a.cause) }
+    ensures answer { IfOk result (λ a. IsOwnAnswer a.cause (bytes_of a)) }
 {
     let lines = drawn_lines(alloc, broken(artery, timing))?;
     let bytes = draw(alloc, artery, timing, title)?;
-    Ok(Answer {
+    Ok(Found {
         cause: Cause::Done,
         lines,
-        put: Some(Put {
-            name: drawing,
-            bytes,
-        }),
+        bytes: Some(bytes),
     })
 }
 
 /// Draws a timing, where it has as many signals as the artery.
 #[tactic(auto, using(crate::proofs::Shaped::unshaped_found))]
-fn draw_any<'a>(
+fn draw_any(
     alloc: Global,
     artery: &Artery,
     timing: &Timing,
     title: Option<&str>,
-    drawing: &'a str,
-) -> Result<Answer<'a>, Memory>
-    ensures finds { MayPut drawing.now (TimingFinds artery.now timing.now (option_map (λ word. word.now) title.entry)) result }
+) -> Result<Found, Memory>
+    ensures finds { IfOk result (λ a. TimingFinds artery.now timing.now (option_map (λ word. word.now) title.entry) a.cause a.lines.items (bytes_of a)) }
+    ensures ends { IfOk result (λ a. IsDrawingEnd a.cause) }
+    ensures answer { IfOk result (λ a. IsOwnAnswer a.cause (bytes_of a)) }
 {
     if timing.count() != artery.count() {
         return fails(alloc, Failing::Shape);
     }
-    draw_shaped(alloc, artery, timing, title, drawing)
+    draw_shaped(alloc, artery, timing, title)
+}
+
+/// The answer where a certificate has no timing: nothing is put.
+pub fn untimed(alloc: Global) -> Result<Found, Memory>
+    ensures cause { IfOk result (λ a. a.cause ≡ Cause.Untimed) }
+    ensures lines { IfOk result (λ a. a.lines.items ≡ untimed_line) }
+    ensures no_put { IfOk result (λ a. a.bytes ≡ None) }
+{
+    let lines = text_lines(alloc, UNTIMED)?;
+    Ok(told(Cause::Untimed, lines))
 }
 
 /// Draws the timing that the file has, good or not, with a title where there is one; the answer tells the first rule that it breaks. The
-/// picture is to be put into the file of this name; nothing is put where the timing has another number of signals, or where there is none.
-/// Of what a certificate claims nothing is checked.
-pub fn draw_timing<'a>(
+/// picture is put; nothing is where the timing has another number of signals, or where there is none. Of what a certificate claims
+/// nothing is checked.
+fn draw_timing(
     alloc: Global,
     artery: &Artery,
     timed: &Timed,
     title: Option<&str>,
-    drawing: &'a str,
-) -> Result<Answer<'a>, Memory>
-    ensures finds { MayPut drawing.now (DrawFinds artery.now timed.now.timing (option_map (λ word. word.now) title.entry)) result }
+) -> Result<Found, Memory>
+    ensures finds { IfOk result (λ a. DrawFinds artery.now timed.now.timing (option_map (λ word. word.now) title.entry) a.cause a.lines.items (bytes_of a)) }
+    ensures ends { IfOk result (λ a. IsDrawingEnd a.cause) }
+    ensures answer { IfOk result (λ a. IsOwnAnswer a.cause (bytes_of a)) }
 {
     match &timed.timing {
-        Some(timing) => draw_any(alloc, artery, timing, title, drawing),
-        None => unplanned(alloc, PlanEnd::NoTimingGiven),
+        Some(timing) => draw_any(alloc, artery, timing, title),
+        None => untimed(alloc),
     }
+}
+
+/// The command `draw`.
+pub struct Draw;
+
+impl Command for Draw {
+    type Reads = (Artery, (Timed, ()));
+
+    ghost usage = { usage.Draw };
+
+    fn find(
+        alloc: Global,
+        read: &(Artery, (Timed, ())),
+        settings: &Settings<'_>,
+    ) -> Result<Found, Memory> {
+        let (artery, (timed, ())) = read;
+        draw_timing(alloc, artery, timed, settings.title)
+    }
+
+    ghost same = { refl };
 }

@@ -1,19 +1,23 @@
 //! The command `half`.
 
-ghost use Rattle.std.specs.Prelude.{◌≡◌, ◌≤◌, ◌++◌, None, IfOk, OnOk, length, option_map};
+ghost use Rattle.std.specs.Prelude.{◌≡◌, ◌≤◌, ◌++◌, None, IfOk, OnOk, length, refl};
 ghost use Rattle.progression.specs.Street.{count};
-ghost use Rattle.run_inputs.specs.Puts.{MayPut, view};
-ghost use Rattle.run_commands.specs.Half.{phase_name, phase_line, phase_lines, half_lines, end_line, TellsPlan, HalfFinds};
+ghost use Rattle.run_inputs.specs.{Puts.{bytes_of}, Status.{IsOwnAnswer}};
+ghost use Rattle.run_commands.specs.Half.{phase_name, phase_line, phase_lines, half_lines, ticks_line, end_line, TellsPlan, HalfFinds};
+ghost use Rattle.run_commands.specs.Ends.{IsHalfEnd};
+ghost use Rattle.run_commands.specs.declared.table.Usage.TheVariants as usage;
 
+use crate::command::Command;
 use crate::hold::fails;
 use crate::lines::{push_number_line, text_lines};
+use crate::settings::Settings;
 use artery_model::{Artery, Dir};
 use diagram_print::push_measure_line;
 use half_integer::{HalfEnd, HalfFault, half, half_of};
 use narrow_fraction::Memory;
 use plan_text::write_timing;
 use quantity_text::push_text;
-use run_inputs::{Answer, Cause, Put, push_numbered, told};
+use run_inputs::{Cause, Found, push_numbered, told};
 use std::alloc::Global;
 use time_space::{Timing, cycle};
 use timing_measures::quotient;
@@ -62,6 +66,13 @@ fn half_lines(alloc: Global, artery: &Artery, plan: &Timing) -> Result<Vec<u8>, 
     Ok(lines)
 }
 
+/// Writes the line of so many ticks, too many for a timing.
+pub fn push_ticks(out: &mut Vec<u8>, ticks: u128) -> Result<(), Memory>
+    ensures { OnOk result (out.new.items ≡ out.old.items ++ ticks_line ticks) }
+{
+    push_number_line(out, "ticks ", ticks)
+}
+
 /// Writes the line of a timing that has no half-cycle plan.
 fn push_end(out: &mut Vec<u8>, end: HalfEnd) -> Result<(), Memory>
     ensures { OnOk result (out.new.items ≡ out.old.items ++ end_line end) }
@@ -69,52 +80,44 @@ fn push_end(out: &mut Vec<u8>, end: HalfEnd) -> Result<(), Memory>
     match end {
         HalfEnd::Uneven { signal } => push_number_line(out, "uneven signal ", signal as u128),
         HalfEnd::Unequal { link } => push_number_line(out, "unequal link ", link as u128),
-        HalfEnd::TooFine { ticks } => push_number_line(out, "ticks ", ticks),
+        HalfEnd::TooFine { ticks } => push_ticks(out, ticks),
     }
 }
 
-/// The answer where a timing has no half-cycle plan, or a typed plan no timing: nothing is put.
-pub fn unmatched(alloc: Global, end: HalfEnd) -> Result<Answer<'static>, Memory>
+/// The answer where a timing has no half-cycle plan: nothing is put.
+fn unmatched(alloc: Global, end: HalfEnd) -> Result<Found, Memory>
     ensures cause { IfOk result (λ a. a.cause ≡ Cause.Unmatched end) }
     ensures lines { IfOk result (λ a. a.lines.items ≡ end_line end) }
-    ensures no_put { IfOk result (λ a. a.put ≡ None) }
+    ensures no_put { IfOk result (λ a. a.bytes ≡ None) }
 {
     let mut lines = Vec::new(alloc);
     push_end(&mut lines, end)?;
     Ok(told(Cause::Unmatched(end), lines))
 }
 
-/// The answer with a half-cycle plan, whose text is to be put into the file of this name.
-fn tell_plan<'a>(
-    alloc: Global,
-    artery: &Artery,
-    plan: &Timing,
-    new: &'a str,
-) -> Result<Answer<'a>, Memory>
+/// The answer with a half-cycle plan, whose text is put.
+fn tell_plan(alloc: Global, artery: &Artery, plan: &Timing) -> Result<Found, Memory>
     requires { length plan.now.patterns ≡ count artery.now }
-    ensures { IfOk result (λ a. TellsPlan artery.now plan.now new.now a.cause a.lines.items (option_map view a.put)) }
+    ensures { IfOk result (λ a. TellsPlan artery.now plan.now a.cause a.lines.items (bytes_of a)) }
 {
     let lines = half_lines(alloc, artery, plan)?;
     let bytes = write_timing(alloc, plan)?;
-    Ok(Answer {
+    Ok(Found {
         cause: Cause::Done,
         lines,
-        put: Some(Put { name: new, bytes }),
+        bytes: Some(bytes),
     })
 }
 
-/// Finds the widest equal bands over all offsets of the timing, whose text is to be put into the file of this name. Nothing is put where
-/// there are none, and where the timing breaks a rule that speaks of no band or can't have such a plan.
-pub fn half_cycle<'a>(
-    alloc: Global,
-    artery: &Artery,
-    timing: &Timing,
-    new: &'a str,
-) -> Result<Answer<'a>, Memory>
-    ensures finds { MayPut new.now (HalfFinds artery.now timing.now) result }
+/// Finds the widest equal bands over all offsets of the timing, whose text is put. Nothing is put where there are none, and where the
+/// timing breaks a rule that speaks of no band or can't have such a plan.
+fn half_cycle(alloc: Global, artery: &Artery, timing: &Timing) -> Result<Found, Memory>
+    ensures finds { IfOk result (λ a. HalfFinds artery.now timing.now a.cause a.lines.items (bytes_of a)) }
+    ensures ends { IfOk result (λ a. IsHalfEnd a.cause) }
+    ensures answer { IfOk result (λ a. IsOwnAnswer a.cause (bytes_of a)) }
 {
     match half(alloc, artery, timing) {
-        Ok(Some(plan)) => tell_plan(alloc, artery, &plan, new),
+        Ok(Some(plan)) => tell_plan(alloc, artery, &plan),
         Ok(None) => {
             let lines = text_lines(alloc, "no equal band\n")?;
             Ok(told(Cause::Done, lines))
@@ -123,4 +126,24 @@ pub fn half_cycle<'a>(
         Err(HalfFault::End(end)) => unmatched(alloc, end),
         Err(HalfFault::Memory) => Err(Memory),
     }
+}
+
+/// The command `half`.
+pub struct Half;
+
+impl Command for Half {
+    type Reads = (Artery, (Timing, ()));
+
+    ghost usage = { usage.Half };
+
+    fn find(
+        alloc: Global,
+        read: &(Artery, (Timing, ())),
+        _settings: &Settings<'_>,
+    ) -> Result<Found, Memory> {
+        let (artery, (timing, ())) = read;
+        half_cycle(alloc, artery, timing)
+    }
+
+    ghost same = { refl };
 }

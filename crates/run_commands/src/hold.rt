@@ -1,13 +1,18 @@
 //! The command `hold`.
 
-ghost use Rattle.std.specs.Prelude.{◌≡◌, ◌++◌, None, IfOk, OnOk};
+ghost use Rattle.std.specs.Prelude.{◌≡◌, ◌++◌, None, IfOk, OnOk, refl};
+ghost use Rattle.run_inputs.specs.{Puts.{bytes_of}, Status.{IsOwnAnswer}};
 ghost use Rattle.run_commands.specs.{Hold.{HoldFinds, IsJudged, verdict_line}, Lines.{fails_line, holds_lines}};
+ghost use Rattle.run_commands.specs.Ends.{IsTestEnd};
+ghost use Rattle.run_commands.specs.declared.table.Usage.TheVariants as usage;
 
+use crate::command::Command;
 use crate::lines::{push_exact_line, push_failing_line};
+use crate::settings::Settings;
 use artery_model::Artery;
 use narrow_fraction::{Frac, Memory};
 use quantity_text::push_text;
-use run_inputs::{Answer, Cause, told};
+use run_inputs::{Cause, Found, told};
 use std::alloc::Global;
 use time_space::{Failing, Timing, holds, value};
 
@@ -41,10 +46,10 @@ pub fn push_verdict(out: &mut Vec<u8>, broken: Option<Failing>) -> Result<(), Me
 }
 
 /// The answer where a timing breaks a rule: nothing is put.
-pub fn fails(alloc: Global, failing: Failing) -> Result<Answer<'static>, Memory>
+pub fn fails(alloc: Global, failing: Failing) -> Result<Found, Memory>
     ensures cause { IfOk result (λ a. a.cause ≡ Cause.Fails failing) }
     ensures lines { IfOk result (λ a. a.lines.items ≡ fails_line failing) }
-    ensures no_put { IfOk result (λ a. a.put ≡ None) }
+    ensures no_put { IfOk result (λ a. a.bytes ≡ None) }
 {
     let mut lines = Vec::new(alloc);
     push_failing_line(&mut lines, "fails ", failing)?;
@@ -52,9 +57,10 @@ pub fn fails(alloc: Global, failing: Failing) -> Result<Answer<'static>, Memory>
 }
 
 /// Tests the timing on the artery: the answer has its weighted band where it holds, else the first rule that it breaks.
-pub fn hold(alloc: Global, artery: &Artery, timing: &Timing) -> Result<Answer<'static>, Memory>
+fn hold_timing(alloc: Global, artery: &Artery, timing: &Timing) -> Result<Found, Memory>
     ensures finds { IfOk result (λ a. HoldFinds artery.now timing.now a.cause a.lines.items) }
-    ensures no_put { IfOk result (λ a. a.put ≡ None) }
+    ensures ends { IfOk result (λ a. IsTestEnd a.cause) }
+    ensures answer { IfOk result (λ a. IsOwnAnswer a.cause (bytes_of a)) }
 {
     match holds(artery, timing) {
         Ok(()) => {
@@ -63,4 +69,24 @@ pub fn hold(alloc: Global, artery: &Artery, timing: &Timing) -> Result<Answer<'s
         }
         Err(failing) => fails(alloc, failing),
     }
+}
+
+/// The command `hold`.
+pub struct Hold;
+
+impl Command for Hold {
+    type Reads = (Artery, (Timing, ()));
+
+    ghost usage = { usage.Hold };
+
+    fn find(
+        alloc: Global,
+        read: &(Artery, (Timing, ())),
+        _settings: &Settings<'_>,
+    ) -> Result<Found, Memory> {
+        let (artery, (timing, ())) = read;
+        hold_timing(alloc, artery, timing)
+    }
+
+    ghost same = { refl };
 }

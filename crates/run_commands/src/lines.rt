@@ -12,6 +12,9 @@ use run_inputs::push_numbered;
 use std::alloc::Global;
 use time_space::Failing;
 
+/// The line of a certificate without a timing.
+pub const UNTIMED: &str = "no plan timing\n";
+
 /// The lines of a text.
 pub fn text_lines(alloc: Global, text: &str) -> Result<Vec<u8>, Memory>
     ensures { IfOk result (λ lines. lines.items ≡ text.now) }

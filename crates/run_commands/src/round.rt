@@ -1,22 +1,26 @@
 //! The commands `round` and `round-from`.
 
-ghost use Rattle.std.specs.Prelude.{◌≡◌, ◌≤◌, ◌++◌, None, Some, IfOk, OnOk, length, option_map};
+ghost use Rattle.std.specs.Prelude.{◌≡◌, ◌≤◌, ◌++◌, None, Some, IfOk, OnOk, length, refl};
 ghost use Rattle.progression.specs.{Street.{count}, Good.{Good}};
 ghost use Rattle.certificate_checker.specs.{Accepted.{IsAccepted}, Claims.{ClaimHolds}};
 ghost use Rattle.diagram_print.specs.Measures.{band_line, weighted_line};
-ghost use Rattle.run_inputs.specs.Puts.{MayPut, view};
+ghost use Rattle.run_inputs.specs.{Puts.{bytes_of}, Status.{IsOwnAnswer}};
 ghost use Rattle.run_commands.specs.Round.{offset_line, offset_lines, plan_lines, unplanned_line, TellsRounded, RoundFinds, RoundFromFinds};
+ghost use Rattle.run_commands.specs.Ends.{IsRoundEnd, IsRoundFromEnd};
+ghost use Rattle.run_commands.specs.declared.table.Usage.TheVariants as usage;
 
 use crate::check::rejected;
+use crate::command::Command;
 use crate::hold::fails;
-use crate::lines::{push_exact_line, push_failing_line, push_number_line, push_pair_line};
+use crate::lines::{UNTIMED, push_exact_line, push_failing_line, push_number_line, push_pair_line};
+use crate::settings::Settings;
 use artery_model::{Artery, Dir};
 use certificate_checker::{check, limit_of};
 use diagram_print::{dir_name, push_band_line, push_weighted_line};
 use narrow_fraction::Memory;
 use plan_text::{Certificate, write_timing};
 use quantity_text::push_text;
-use run_inputs::{Answer, Cause, Put, Timed, push_numbered, told};
+use run_inputs::{Cause, Found, Timed, push_numbered, told};
 use second_plan::{Plan, PlanEnd, PlanFault, plan};
 use std::alloc::Global;
 use time_space::{Timing, holds};
@@ -97,7 +101,7 @@ fn push_unplanned(out: &mut Vec<u8>, end: &PlanEnd) -> Result<(), Memory>
     ensures { OnOk result (out.new.items ≡ out.old.items ++ unplanned_line end.now) }
 {
     match end {
-        PlanEnd::NoTimingGiven => push_text(out, "no plan timing\n"),
+        PlanEnd::NoTimingGiven => push_text(out, UNTIMED),
         PlanEnd::NoWholeCycle => push_text(out, "no plan cycle\n"),
         PlanEnd::TooFine { ticks } => push_number_line(out, "no plan ticks ", *ticks),
         PlanEnd::NoLine { dir } => push_no_line(out, *dir),
@@ -107,44 +111,36 @@ fn push_unplanned(out: &mut Vec<u8>, end: &PlanEnd) -> Result<(), Memory>
 }
 
 /// The answer where no plan is made: nothing is put.
-pub fn unplanned(alloc: Global, end: PlanEnd) -> Result<Answer<'static>, Memory>
+fn unplanned(alloc: Global, end: PlanEnd) -> Result<Found, Memory>
     ensures cause { IfOk result (λ a. a.cause ≡ Cause.Unplanned end) }
     ensures lines { IfOk result (λ a. a.lines.items ≡ unplanned_line end) }
-    ensures no_put { IfOk result (λ a. a.put ≡ None) }
+    ensures no_put { IfOk result (λ a. a.bytes ≡ None) }
 {
     let mut lines = Vec::new(alloc);
     push_unplanned(&mut lines, &end)?;
     Ok(told(Cause::Unplanned(end), lines))
 }
 
-/// The answer with a plan, whose text is to be put into the file of this name.
-fn tell_plan<'a>(
-    alloc: Global,
-    artery: &Artery,
-    plan: &Plan,
-    name: &'a str,
-) -> Result<Answer<'a>, Memory>
+/// The answer with a plan, whose text is put.
+fn tell_plan(alloc: Global, artery: &Artery, plan: &Plan) -> Result<Found, Memory>
     requires { length plan.now.offsets.items ≡ count artery.now }
-    ensures { IfOk result (λ a. TellsRounded artery.now plan.now name.now a.cause a.lines.items (option_map view a.put)) }
+    ensures { IfOk result (λ a. TellsRounded artery.now plan.now a.cause a.lines.items (bytes_of a)) }
 {
     let lines = plan_lines(alloc, artery, plan)?;
     let bytes = write_timing(alloc, &plan.timing)?;
-    Ok(Answer {
+    Ok(Found {
         cause: Cause::Done,
         lines,
-        put: Some(Put { name, bytes }),
+        bytes: Some(bytes),
     })
 }
 
 /// Makes a plan in whole seconds of the certificate's timing where it is accepted, with what it loses at most against every timing. Its
-/// text is to be put into the file of this name; nothing is put where the certificate is rejected, or where no plan is made.
-pub fn round<'a>(
-    alloc: Global,
-    artery: &Artery,
-    certificate: &Certificate,
-    name: &'a str,
-) -> Result<Answer<'a>, Memory>
-    ensures finds { MayPut name.now (RoundFinds artery.now certificate.now) result }
+/// text is put; nothing is where the certificate is rejected, or where no plan is made.
+fn round_timing(alloc: Global, artery: &Artery, certificate: &Certificate) -> Result<Found, Memory>
+    ensures finds { IfOk result (λ a. RoundFinds artery.now certificate.now a.cause a.lines.items (bytes_of a)) }
+    ensures ends { IfOk result (λ a. IsRoundEnd a.cause) }
+    ensures answer { IfOk result (λ a. IsOwnAnswer a.cause (bytes_of a)) }
 {
     if let Err(reject) = check(alloc, artery, certificate) {
         return rejected(alloc, artery, reject);
@@ -154,31 +150,32 @@ pub fn round<'a>(
     };
     artery.known_valid();
     match plan(alloc, artery, claim, timing) {
-        Ok(plan) => tell_plan(alloc, artery, &plan, name),
+        Ok(plan) => tell_plan(alloc, artery, &plan),
         Err(PlanFault::End(end)) => unplanned(alloc, end),
         Err(PlanFault::Memory) => Err(Memory),
     }
 }
 
 /// Tells the plan of a good timing, and what it loses against the claim of an accepted certificate.
-fn plan_good<'a>(
+fn plan_good(
     alloc: Global,
     artery: &Artery,
     certificate: &Certificate,
     timing: &Timing,
-    name: &'a str,
-) -> Result<Answer<'a>, Memory>
+) -> Result<Found, Memory>
     requires accepted { IsAccepted artery.now certificate.now }
     requires claim { ClaimHolds artery.now certificate.now.claim certificate.now.timing }
     requires good { Good artery.now timing.now }
-    ensures finds { MayPut name.now (RoundFromFinds artery.now certificate.now (Some timing.now)) result }
+    ensures finds { IfOk result (λ a. RoundFromFinds artery.now certificate.now (Some timing.now) a.cause a.lines.items (bytes_of a)) }
+    ensures ends { IfOk result (λ a. IsRoundFromEnd a.cause) }
+    ensures answer { IfOk result (λ a. IsOwnAnswer a.cause (bytes_of a)) }
 {
     let Some(claim) = limit_of(&certificate.claim) else {
         unreachable!()
     };
     artery.known_valid();
     match plan(alloc, artery, claim, timing) {
-        Ok(plan) => tell_plan(alloc, artery, &plan, name),
+        Ok(plan) => tell_plan(alloc, artery, &plan),
         Err(PlanFault::End(end)) => unplanned(alloc, end),
         Err(PlanFault::Memory) => Err(Memory),
     }
@@ -186,14 +183,15 @@ fn plan_good<'a>(
 
 /// Makes such a plan of another timing that is good on the artery; what it loses is counted from what the certificate claims, where that is
 /// accepted. Nothing is put either where the timing breaks a rule, or where there is none.
-pub fn round_from<'a>(
+fn round_other(
     alloc: Global,
     artery: &Artery,
     certificate: &Certificate,
     timed: &Timed,
-    name: &'a str,
-) -> Result<Answer<'a>, Memory>
-    ensures finds { MayPut name.now (RoundFromFinds artery.now certificate.now timed.now.timing) result }
+) -> Result<Found, Memory>
+    ensures finds { IfOk result (λ a. RoundFromFinds artery.now certificate.now timed.now.timing a.cause a.lines.items (bytes_of a)) }
+    ensures ends { IfOk result (λ a. IsRoundFromEnd a.cause) }
+    ensures answer { IfOk result (λ a. IsOwnAnswer a.cause (bytes_of a)) }
 {
     if let Err(reject) = check(alloc, artery, certificate) {
         return rejected(alloc, artery, reject);
@@ -204,5 +202,45 @@ pub fn round_from<'a>(
     if let Err(failing) = holds(artery, timing) {
         return fails(alloc, failing);
     }
-    plan_good(alloc, artery, certificate, timing, name)
+    plan_good(alloc, artery, certificate, timing)
+}
+
+/// The command `round`.
+pub struct Round;
+
+impl Command for Round {
+    type Reads = (Artery, (Certificate, ()));
+
+    ghost usage = { usage.Round };
+
+    fn find(
+        alloc: Global,
+        read: &(Artery, (Certificate, ())),
+        _settings: &Settings<'_>,
+    ) -> Result<Found, Memory> {
+        let (artery, (certificate, ())) = read;
+        round_timing(alloc, artery, certificate)
+    }
+
+    ghost same = { refl };
+}
+
+/// The command `round-from`.
+pub struct RoundFrom;
+
+impl Command for RoundFrom {
+    type Reads = (Artery, (Certificate, (Timed, ())));
+
+    ghost usage = { usage.RoundFrom };
+
+    fn find(
+        alloc: Global,
+        read: &(Artery, (Certificate, (Timed, ()))),
+        _settings: &Settings<'_>,
+    ) -> Result<Found, Memory> {
+        let (artery, (certificate, (timed, ()))) = read;
+        round_other(alloc, artery, certificate, timed)
+    }
+
+    ghost same = { refl };
 }

@@ -4,7 +4,7 @@ ghost use Rattle.std.specs.Prelude.{◌≡◌, IfOk, IfSome};
 ghost use Rattle.progression.specs.Good.{Good};
 ghost use Rattle.work_meter.specs.Work.{IsBelow};
 ghost use Rattle.branch_tree.specs.{Certified.{warrant_of}, Searched.{IsSearched}};
-ghost use Rattle.run_commands.specs.Searched.{IsTextOf, cause_of};
+ghost use Rattle.run_commands.specs.{Searched.{IsTextOf, cause_of}, Ends.{IsVerdict}};
 
 use artery_model::Artery;
 use branch_tree::{Found, Searched, Verdict, search_and_check};
@@ -23,7 +23,8 @@ pub struct Told {
 
 /// The cause of a run that ends with this verdict.
 pub fn cause_of(verdict: Verdict) -> Cause
-    ensures { result ≡ cause_of verdict }
+    ensures value { result ≡ cause_of verdict }
+    ensures verdict { IsVerdict result }
 {
     match verdict {
         Verdict::Best => Cause::Done,

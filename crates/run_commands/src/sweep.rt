@@ -1,15 +1,19 @@
 //! The command `sweep`.
 
-ghost use Rattle.std.specs.Prelude.{◌≡◌, IfOk, map, string_bytes};
+ghost use Rattle.std.specs.Prelude.{◌≡◌, IfOk, map, string_bytes, refl};
 ghost use Rattle.work_meter.specs.Work.{IsBelow};
-ghost use Rattle.run_inputs.specs.{Puts.{Puts}, Cycles.{SpellCycles}};
+ghost use Rattle.run_inputs.specs.{Puts.{With, bytes_of}, Cycles.{SpellCycles}, Status.{IsOwnAnswer}};
 ghost use Rattle.run_commands.specs.Sweep.{rows_line, IsSweep};
+ghost use Rattle.run_commands.specs.Ends.{IsDone};
+ghost use Rattle.run_commands.specs.declared.table.Usage.TheVariants as usage;
 
+use crate::command::Command;
 use crate::lines::push_number_line;
+use crate::settings::Settings;
 use artery_model::Artery;
 use cycle_sweep::{sweep_rows, sweep_table};
 use narrow_fraction::Memory;
-use run_inputs::{Answer, Cause, Put, cycles_in};
+use run_inputs::{Cause, Found, cycles_in};
 use std::alloc::Global;
 
 fn rows_line(alloc: Global, rows: usize) -> Result<Vec<u8>, Memory>
@@ -20,26 +24,42 @@ fn rows_line(alloc: Global, rows: usize) -> Result<Vec<u8>, Memory>
     Ok(line)
 }
 
-/// Searches the artery at each cycle that the words spell, each time within the limit of work. The table of what is found is to be
-/// put into the file of this name.
-pub fn sweep<'a>(
+/// Searches the artery at each cycle that the words spell, each time within the limit of work. The table of what is found is put.
+fn sweep_cycles(
     alloc: Global,
     artery: &Artery,
-    table: &'a str,
     limit: Option<u64>,
     words: &[String],
-) -> Result<Answer<'a>, Memory>
+) -> Result<Found, Memory>
     requires limit { IsBelow 0 limit }
     requires words { SpellCycles (map string_bytes words.now) }
-    ensures finds { Puts table.now (IsSweep artery.now limit (map string_bytes words.now)) result }
+    ensures finds { IfOk result (λ a. With (IsSweep artery.now limit (map string_bytes words.now) a.cause a.lines.items) (bytes_of a)) }
+    ensures ends { IfOk result (λ a. IsDone a.cause) }
+    ensures answer { IfOk result (λ a. IsOwnAnswer a.cause (bytes_of a)) }
 {
     let cycles = cycles_in(alloc, words)?;
     let rows = sweep_rows(alloc, artery, limit, cycles.as_slice())?;
     let bytes = sweep_table(alloc, artery, rows.as_slice())?;
     let lines = rows_line(alloc, words.len())?;
-    Ok(Answer {
+    Ok(Found {
         cause: Cause::Done,
         lines,
-        put: Some(Put { name: table, bytes }),
+        bytes: Some(bytes),
     })
+}
+
+/// The command `sweep`.
+pub struct Sweep;
+
+impl Command for Sweep {
+    type Reads = (Artery, ());
+
+    ghost usage = { usage.Sweep };
+
+    fn find(alloc: Global, read: &(Artery, ()), settings: &Settings<'_>) -> Result<Found, Memory> {
+        let (artery, ()) = read;
+        sweep_cycles(alloc, artery, settings.limit, settings.cycles)
+    }
+
+    ghost same = { refl };
 }

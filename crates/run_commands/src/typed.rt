@@ -1,21 +1,24 @@
 //! The command `timing`.
 
-ghost use Rattle.std.specs.Prelude.{◌≡◌, IfOk};
+ghost use Rattle.std.specs.Prelude.{◌≡◌, None, IfOk, refl};
 ghost use Rattle.progression.specs.TimingRecord.{cycle};
 ghost use Rattle.typed_plan.specs.Ends.{IsBelow};
-ghost use Rattle.run_inputs.specs.Puts.{MayPut};
-ghost use Rattle.run_commands.specs.Typed.{measured_lines, WritesTiming, TypedFinds};
+ghost use Rattle.run_inputs.specs.{Puts.{bytes_of}, Status.{IsOwnAnswer}};
+ghost use Rattle.run_commands.specs.{Half.{ticks_line}, Typed.{measured_lines, WritesTiming, TypedFinds}};
+ghost use Rattle.run_commands.specs.Ends.{IsTypedEnd};
+ghost use Rattle.run_commands.specs.declared.table.Usage.TheVariants as usage;
 
 use crate::bands::push_widest;
-use crate::half::unmatched;
+use crate::command::Command;
+use crate::half::push_ticks;
 use crate::hold::{broken, push_verdict};
+use crate::settings::Settings;
 use artery_model::{Artery, Dir};
 use description_reader::TypedPlan;
 use diagram_print::push_weighted_line;
-use half_integer::HalfEnd;
 use narrow_fraction::Memory;
 use plan_text::write_timing;
-use run_inputs::{Answer, Cause, Put, refused_line, told};
+use run_inputs::{Cause, Found, refused_line, told};
 use std::alloc::Global;
 use typed_plan::{Measured, TypedFault, timing_of};
 
@@ -34,44 +37,69 @@ fn measured_lines(alloc: Global, artery: &Artery, made: &Measured) -> Result<Vec
 }
 
 /// Tells what was measured of a plan's timing and whether it holds, and writes it.
-fn write_measured<'a>(
-    alloc: Global,
-    artery: &Artery,
-    made: &Measured,
-    name: &'a str,
-) -> Result<Answer<'a>, Memory>
+fn write_measured(alloc: Global, artery: &Artery, made: &Measured) -> Result<Found, Memory>
     requires outbound { IsBelow (cycle artery.now made.now.timing) made.now.outbound }
     requires inbound { IsBelow (cycle artery.now made.now.timing) made.now.inbound }
-    ensures finds { MayPut name.now (WritesTiming artery.now made.now) result }
+    ensures finds { IfOk result (λ a. WritesTiming artery.now made.now a.cause a.lines.items (bytes_of a)) }
+    ensures ends { IfOk result (λ a. IsTypedEnd a.cause) }
+    ensures answer { IfOk result (λ a. IsOwnAnswer a.cause (bytes_of a)) }
 {
     let mut lines = measured_lines(alloc, artery, made)?;
     push_verdict(&mut lines, broken(artery, &made.timing))?;
     let bytes = write_timing(alloc, &made.timing)?;
-    Ok(Answer {
+    Ok(Found {
         cause: Cause::Done,
         lines,
-        put: Some(Put { name, bytes }),
+        bytes: Some(bytes),
     })
 }
 
-/// Makes the timing of a plan that is typed in seconds, whose text is to be put into the file of this name, and tells its bands and the
-/// first rule that it breaks, if there is one. Nothing is put where the plan isn't of the artery, or where it has too many ticks.
-pub fn typed_timing<'a>(
-    alloc: Global,
-    artery: &Artery,
-    plan: &TypedPlan,
-    name: &'a str,
-) -> Result<Answer<'a>, Memory>
-    ensures finds { MayPut name.now (TypedFinds artery.now plan.now) result }
+/// The answer where a plan has so many ticks: nothing is put.
+fn too_fine(alloc: Global, ticks: u128) -> Result<Found, Memory>
+    ensures cause { IfOk result (λ a. a.cause ≡ Cause.TooFine ticks) }
+    ensures lines { IfOk result (λ a. a.lines.items ≡ ticks_line ticks) }
+    ensures no_put { IfOk result (λ a. a.bytes ≡ None) }
+{
+    let mut lines = Vec::new(alloc);
+    push_ticks(&mut lines, ticks)?;
+    Ok(told(Cause::TooFine { ticks }, lines))
+}
+
+/// Makes the timing of a plan that is typed in seconds, whose text is put, and tells its bands and the first rule that it breaks, if there
+/// is one. Nothing is put where the plan isn't of the artery, or where it has too many ticks.
+fn typed_timing(alloc: Global, artery: &Artery, plan: &TypedPlan) -> Result<Found, Memory>
+    ensures finds { IfOk result (λ a. TypedFinds artery.now plan.now a.cause a.lines.items (bytes_of a)) }
+    ensures ends { IfOk result (λ a. IsTypedEnd a.cause) }
+    ensures answer { IfOk result (λ a. IsOwnAnswer a.cause (bytes_of a)) }
 {
     artery.known_valid();
     match timing_of(alloc, artery, plan) {
-        Ok(made) => write_measured(alloc, artery, &made, name),
+        Ok(made) => write_measured(alloc, artery, &made),
         Err(TypedFault::Refused(refusal)) => {
             let lines = refused_line(alloc, &refusal)?;
             Ok(told(Cause::Refused(refusal), lines))
         }
-        Err(TypedFault::TooFine { ticks }) => unmatched(alloc, HalfEnd::TooFine { ticks }),
+        Err(TypedFault::TooFine { ticks }) => too_fine(alloc, ticks),
         Err(TypedFault::Memory) => Err(Memory),
     }
+}
+
+/// The command `timing`.
+pub struct TimingOf;
+
+impl Command for TimingOf {
+    type Reads = (Artery, (TypedPlan, ()));
+
+    ghost usage = { usage.TimingOf };
+
+    fn find(
+        alloc: Global,
+        read: &(Artery, (TypedPlan, ())),
+        _settings: &Settings<'_>,
+    ) -> Result<Found, Memory> {
+        let (artery, (plan, ())) = read;
+        typed_timing(alloc, artery, plan)
+    }
+
+    ghost same = { refl };
 }

@@ -6,7 +6,6 @@ use Rattle.std.proofs.lemmas.List.Elements.{All-nil, All-cons}
 use Rattle.std.proofs.lemmas.List.Folds.{list_all_at}
 use Rattle.std.proofs.lemmas.Slice.Zip.{all_zipped_more}
 use Rattle.rational_theory.specs.Rational.{ℚ}
-use Rattle.run_inputs.specs.Command.{request_of}
 use Rattle.run_inputs.specs.Cycles.{cycle_of, spells_cycle, are_cycles, SpellCycles, AreCycles, most_cycles}
 
 second_of : (a b : Bool) → (a && b) ≡ true → b ≡ true
@@ -51,8 +50,3 @@ cycles_more text words i word cycles now cycle lt is e h k =
     let taken : take (i + 1) words ≡ take i words ++ word ∷ [] = take_more words i word lt ∙ ap (λ w. take i words ++ w ∷ []) (sym is) in
     let mapped : map text (take (i + 1) words) ≡ map text (take i words) ++ text word ∷ [] = ap (map text) taken ∙ map-append text (take i words) (word ∷ []) in
     rw (e, mapped) (all_zipped_more (λ w q. cycle_of w ≡ Some q) (map text (take i words)) cycles (text word) cycle h k)
-
--- words of no usage
-pub few_words : {S : Type 0} (text : S → List ℕ) (words : List S) → length words < 1 → None ≡ request_of (map text words)
-few_words text [] h = refl
-few_words text (word ∷ more) h = absurd (omega (arith, h))

@@ -1,6 +1,5 @@
 pub mod Spelled
 pub mod Cycling
-pub mod Ranges
 pub mod Stopped
-pub mod FirstUnread
+pub mod Next
 pub mod Timing

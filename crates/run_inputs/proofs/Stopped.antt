@@ -11,7 +11,9 @@ use Rattle.link_proof.specs.LinkWarrants.{links_of}
 use Rattle.plan_text.specs.declared.fault.BadText.{BadText}
 use Rattle.run_inputs.specs.Timed.{timed_of}
 use Rattle.run_inputs.specs.Lines.{cannot_read_line}
-use Rattle.run_inputs.specs.Reading.{Reader, Description, Timing, Certificate, LinkCertificate, Timed, TypedPlan, HasFault, IsBadText, IsRefusedFor, Input, IsUnread, StopsReading, IsRoomForFaults}
+use Rattle.run_inputs.specs.declared.reader.Reader.{Reader}
+use Rattle.run_inputs.specs.declared.reader.Reader.TheVariants.{Description, Timing, Certificate, LinkCertificate, Timed, TypedPlan}
+use Rattle.run_inputs.specs.Reading.{HasFault, IsBadText, IsRefusedFor, Input, IsUnread, StopsReading, IsRoomForFaults}
 use Rattle.run_inputs.specs.declared.cause.Cause.{Cause}
 use Rattle.run_inputs.specs.declared.cause.Cause.TheVariants as cause
 

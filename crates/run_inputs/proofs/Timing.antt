@@ -7,8 +7,8 @@ use Rattle.certificate_model.specs.Warrants.{Warrant}
 use Rattle.plan_text.specs.CertificateReading.{certificate_of}
 use Rattle.run_inputs.specs.Timed.{is_timing, some_timing, timing_in, timed_of}
 use Rattle.run_inputs.specs.Reading.{IsBadText, end_of}
-use Rattle.run_inputs.specs.declared.answer.Unread.{Unread}
-use Rattle.run_inputs.specs.declared.answer.Unread.TheVariants as stop
+use Rattle.run_inputs.specs.declared.found.Unread.{Unread}
+use Rattle.run_inputs.specs.declared.found.Unread.TheVariants as stop
 use Rattle.run_inputs.specs.declared.cause.Cause.{Cause}
 use Rattle.run_inputs.specs.declared.cause.Cause.TheVariants as cause
 

@@ -3,6 +3,5 @@ pub mod Cycles
 pub mod Timed
 pub mod Lines
 pub mod Reading
-pub mod Command
 pub mod Status
 pub mod Puts

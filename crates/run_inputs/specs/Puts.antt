@@ -1,9 +1,6 @@
--- The bytes that an answer puts into a file, and what is found of an answer that puts some, or may.
-use Rattle.std.specs.Prelude.{◌≡◌, ℕ, List, Option, Some, None, IfOk, Result, option_map}
-use Rattle.narrow_fraction.specs.declared.memory.Memory.{Memory}
-use Rattle.run_inputs.specs.declared.answer.Answer.{Answer}
-use Rattle.run_inputs.specs.declared.answer.Put.{Put}
-use Rattle.run_inputs.specs.declared.cause.Cause.{Cause}
+-- The bytes that are put into a file.
+use Rattle.std.specs.Prelude.{◌≡◌, ℕ, List, Option, Some, None, option_map}
+use Rattle.run_inputs.specs.declared.found.Found.{Found}
 
 -- the bytes that are to be put into a file
 pub record NamedBytes : Type 0 where
@@ -23,13 +20,6 @@ put_of None bytes = None
 put_of (Some name) None = None
 put_of (Some name) (Some bytes) = Some (named name bytes)
 
-abbrev pub view : Put → NamedBytes
-view put = named put.name.now put.bytes.items
-
--- of an answer that puts bytes into the file of this name: this is found of its cause, its lines and these bytes
-abbrev pub Puts : List ℕ → (Cause → List ℕ → List ℕ → Type 0) → Result Answer Memory → Type 0
-Puts name p r = IfOk r (λ a. (bytes : List ℕ) × p a.cause a.lines.items bytes × (option_map view a.put ≡ Some (named name bytes)))
-
--- and of one that may put none
-abbrev pub MayPut : List ℕ → (Cause → List ℕ → Option (List ℕ) → Type 0) → Result Answer Memory → Type 0
-MayPut name p r = IfOk r (λ a. (bytes : Option (List ℕ)) × p a.cause a.lines.items bytes × (option_map view a.put ≡ put_of (Some name) bytes))
+-- the bytes of what is found, where there are any
+abbrev pub bytes_of : Found → Option (List ℕ)
+bytes_of f = option_map (λ b. b.items) f.bytes

@@ -1,5 +1,5 @@
 -- The files that a command reads, one after the other. What a file holds is a function of its name, with the bytes where they are told.
-use Rattle.std.specs.Prelude.{◌≡◌, ◌⊎◌, ℕ, ◌+◌, ◌≤◌, List, [], ◌∷◌, length, Option, None, IfOk, IfSome, IsSome, OnErr, Result, Ok, Err}
+use Rattle.std.specs.Prelude.{◌≡◌, ◌⊎◌, ℕ, ◌+◌, ◌≤◌, List, [], ◌∷◌, length, Option, Some, None, IfOk, IfSome, IsSome, OnErr, Result, Ok, Err}
 use Rattle.narrow_fraction.specs.declared.memory.Memory.{Memory}
 use Rattle.outer_edge.specs.Counts.{NoneFell, SameCounts, CountedAt}
 use Rattle.outer_edge.specs.Held.{BeginsWith, SameFiles}
@@ -16,21 +16,15 @@ use Rattle.plan_text.specs.declared.fault.BadText.{BadText}
 use Rattle.link_proof.specs.LinkWarrants.{LinkWarrant, links_of}
 use Rattle.run_inputs.specs.Timed.{timed_of}
 use Rattle.run_inputs.specs.Lines.{refused_line, bad_text_line, cannot_read_line, too_long_line}
-use Rattle.run_inputs.specs.declared.answer.Answer.{Answer}
-use Rattle.run_inputs.specs.declared.answer.Unread.{Unread}
-use Rattle.run_inputs.specs.declared.answer.Unread.TheVariants as unread
+use Rattle.run_inputs.specs.declared.reader.Reader.{Reader}
+use Rattle.run_inputs.specs.declared.reader.Reader.TheVariants.{Description, Timing, Certificate, LinkCertificate, Timed, TypedPlan}
+use Rattle.run_inputs.specs.declared.found.Found.{Found}
+use Rattle.run_inputs.specs.declared.found.Unread.{Unread}
+use Rattle.run_inputs.specs.declared.found.Unread.TheVariants as unread
 use Rattle.run_inputs.specs.declared.cause.Cause.{Cause}
 use Rattle.run_inputs.specs.declared.cause.Cause.TheVariants as cause
 
 -- ---- readers
-pub data Reader : Type 0 where
-  Description : Reader
-  Timing : Reader
-  Certificate : Reader
-  LinkCertificate : Reader  -- a certificate of link timings
-  Timed : Reader  -- a timing or a certificate, of which its timing is taken
-  TypedPlan : Reader  -- a plan as people type it, in seconds
-
 -- what a file is read as
 abbrev pub Value : Reader → Type 0
 Value Description = Street
@@ -92,9 +86,11 @@ pub record Input : Type 0 where
 abbrev pub input : Reader → List ℕ → Input
 input r n = record { reader = r; name = n }
 
--- three files, in this order
-abbrev pub three_inputs : Reader → Reader → Reader → List ℕ → List ℕ → List ℕ → List Input
-three_inputs r s t one other last = input r one ∷ input s other ∷ input t last ∷ []
+-- files of these names, each with its reader
+abbrev pub inputs : List Reader → List (List ℕ) → List Input
+inputs [] names = []
+inputs (r ∷ rs) [] = []
+inputs (r ∷ rs) (name ∷ names) = input r name ∷ inputs rs names
 
 -- these are the file's bytes, where it tells them, and no more than the limit
 pub record IsWithinLimit (most : ℕ) (held : Option (List ℕ)) (bytes : List ℕ) : Type 0 where
@@ -122,15 +118,16 @@ IsUnread i place held before after (cause.TooLong file) lines =
 IsUnread i place held before after c lines = SameCounts before after × HasBytes (most_bytes i.reader) (held i.name) (λ bytes. IsRefusedFor i.reader bytes c lines)
 
 -- ---- all files
--- a value for each file
-abbrev pub Values : List Input → Type 0
+-- a value for each reader
+abbrev pub Values : List Reader → Type 0
 Values [] = Unit {0}
-Values (i ∷ is) = Value i.reader × Values is
+Values (r ∷ rs) = Value r × Values rs
 
--- every file is read as its value
-abbrev pub AreRead : (is : List Input) → (List ℕ → Option (List ℕ)) → Values is → Type 0
-AreRead [] held v = Unit {0}
-AreRead (i ∷ is) held v = Reads i.reader (held i.name) v.0 × AreRead is held v.1
+-- the file of each name is read as its value
+abbrev pub AreRead : (rs : List Reader) → List (List ℕ) → (List ℕ → Option (List ℕ)) → Values rs → Type 0
+AreRead [] names held v = Unit {0}
+AreRead (r ∷ rs) [] held v = ⊥
+AreRead (r ∷ rs) (name ∷ names) held v = Reads r (held name) v.0 × AreRead rs names held v.1
 
 -- so many bytes are room for the line of each file that couldn't be read
 abbrev pub IsRoomForFaults : List Input → ℕ → Type 0
@@ -156,17 +153,22 @@ pub record LeavesFiles {F : Type 0} (files : Ghosts F) (before now : F) : Type 0
   pub puts : SameCounts (files.put_faults before) (files.put_faults now)
 
 -- these files were read as their values, and no read failed
-pub record WereRead {F : Type 0} (files : Ghosts F) (before now : F) (is : List Input) (values : Values is) : Type 0 where
-  pub read : AreRead is (files.holds before) values
+pub record WereRead {F : Type 0} (files : Ghosts F) (before now : F) (rs : List Reader) (names : List (List ℕ)) (values : Values rs) : Type 0 where
+  pub read : AreRead rs names (files.holds before) values
   pub counts : SameCounts (files.read_faults before) (files.read_faults now)
 
--- the answer that tells why a file isn't read, or want of memory
-abbrev pub end_of : Unread → Result Answer Memory
+-- what tells why a file isn't read, or want of memory
+abbrev pub end_of : Unread → Result Found Memory
 end_of (unread.Told a) = Ok a
 end_of unread.Memory = Err (record {})
 
--- One of these files, of which the first is read at this place, wasn't read: an answer that tells why and puts nothing, or want of memory where no read failed.
-pub record WasUnread {F : Type 0} (files : Ghosts F) (before now : F) (is : List Input) (place : ℕ) (end : Unread) : Type 0 where
-  pub told : IfOk (end_of end) (λ a. StopsReading is place (files.holds before) (files.read_faults before) (files.read_faults now) a.cause a.lines.items)
-  pub no_put : IfOk (end_of end) (λ a. a.put ≡ None)
+-- One of these files, of which the first is read at this place, wasn't read: what tells why, without bytes to be put, or want of memory where no read failed.
+pub record WasUnread {F : Type 0} (files : Ghosts F) (before now : F) (rs : List Reader) (names : List (List ℕ)) (place : ℕ) (end : Unread) : Type 0 where
+  pub told : IfOk (end_of end) (λ a. StopsReading (inputs rs names) place (files.holds before) (files.read_faults before) (files.read_faults now) a.cause a.lines.items)
+  pub no_put : IfOk (end_of end) (λ a. a.bytes ≡ None)
   pub memory : OnErr (end_of end) (SameCounts (files.read_faults before) (files.read_faults now))
+
+-- what neither reads nor puts leaves the files just as they were
+abbrev pub LeavesAlone : {F : Type 0} → List Reader → Option (List ℕ) → F → F → Type 0
+LeavesAlone [] None before now = now ≡ before
+LeavesAlone readers output before now = Unit {0}

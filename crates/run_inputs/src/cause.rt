@@ -15,7 +15,7 @@ use time_space::Failing;
 /// The number of the status for words that the system doesn't give as text. It is none of a cause: no run ends with it.
 pub const NO_WORDS: u8 = 12;
 
-/// Why a run ends with its status. `file` is 1, 2 or 3: the first, the second or the third file that the command reads.
+/// Why a run ends with its status. `file` is 1 for the first file that the command reads, 2 for the second, and so on.
 #[derive(Drop)]
 pub enum Cause {
     /// The work was done. For `solve`, `links` and `trial`: the timing that was found is a best one.
@@ -46,11 +46,14 @@ pub enum Cause {
     Memory,
     /// This file has more bytes than its limit.
     TooLong { file: u8 },
-    /// No plan in whole seconds is made, of the accepted certificate's timing or of another one: the first reason. Of `draw`: the
-    /// certificate has no timing.
+    /// No plan in whole seconds is made, of the accepted certificate's timing or of another one: the first reason.
     Unplanned(PlanEnd),
-    /// The timing has no half-cycle plan: the first reason. Of `timing`: the typed plan has a number of too many ticks for a timing.
+    /// The file is a certificate without a timing, so there is none to draw.
+    Untimed,
+    /// The timing has no half-cycle plan: the first reason.
     Unmatched(HalfEnd),
+    /// The typed plan has so many ticks, which are too many for a timing.
+    TooFine { ticks: u128 },
 }
 
 /// How a run ends: a number for the system, and the cause.
@@ -76,8 +79,8 @@ impl Cause {
             Cause::WriteFault => 7,
             Cause::Memory => 8,
             Cause::TooLong { .. } => 9,
-            Cause::Unplanned(_) => 10,
-            Cause::Unmatched(_) => 11,
+            Cause::Unplanned(_) | Cause::Untimed => 10,
+            Cause::Unmatched(_) | Cause::TooFine { .. } => 11,
         }
     }
 }

@@ -1,34 +1,34 @@
-//! What a run of the program `maxband` begins with: its words, the files that its command reads, and how it ends where one of them
-//! isn't read.
+//! What a run of the program `maxband` begins with: the files that its command reads, the numbers among its words, and how it ends
+//! where a file isn't read.
 //!
-//! `command_in` says what the words ask for, and what that does with files is one table (`shape` in `specs/Command.antt`): which files
-//! are read, in order and by which reader; which may be put; whether any of several best answers may be told. The numbers among the
-//! words have one definition, digits without a leading zero between a least and a most (`specs/Numbers.antt`); the limit of work is
-//! one of these or none, by the word `all`.
+//! The numbers among the words have one definition, digits without a leading zero between a least and a most (`specs/Numbers.antt`);
+//! the limit of work is one of these or none, by the word `all`. The cycles of a sweep are quantities (`specs/Cycles.antt`).
 //!
-//! What a file is read as and refused for is a row of another table (`reading` in `specs/Reading.antt`), and what it is not read for is
-//! one relation: it has bytes within the limit that describe the artery, are read as the timing or certificate, or are refused as
-//! just this (`HasBytes`); or one byte more than the limit was taken, with which the file begins; or a read failed and was counted.
-//! These bytes are the file's where it tells them; where it tells none, as the system's files don't, all that is said is that there
-//! are such bytes. A file is read by its value's type (`Readable`): `read_one`, `read_both`, `read_three` read the files of a command
-//! in the order of its words, and stop at the first that isn't read.
+//! What a file is read as and refused for goes by its `Reader` (`specs/Reading.antt`), and what it is not read for is one relation: it
+//! has bytes within the limit that describe the artery, are read as the timing or certificate, or are refused as just this (`HasBytes`);
+//! or one byte more than the limit was taken, with which the file begins; or a read failed and was counted. These bytes are the file's
+//! where it tells them; where it tells none, as the system's files don't, all that is said is that there are such bytes. A file is
+//! read by its value's type (`Readable`), and any number of files, one after the other, by a list of such types (`Inputs`): the reading
+//! stops at the first that isn't read.
 //!
-//! An `Answer` has the cause of a run's status, its lines, and the bytes that it puts, where it puts any (`specs/Puts.antt`).
+//! `Found` has the cause of a run's status, its lines, and the bytes of the file that is put, where any are. Of that file's name no
+//! command knows anything (`specs/Puts.antt`).
 #![tactic(auto)]
 
-mod answer;
 mod cause;
-mod command;
 mod cycles;
+mod found;
 mod inputs;
 mod lines;
 mod numbers;
 mod readable;
+mod reader;
 
-pub use answer::{Answer, Put, Unread, told};
 pub use cause::{Cause, NO_WORDS, Status};
-pub use command::{Command, command_in, room_for_faults};
-pub use cycles::cycles_in;
-pub use inputs::{read_both, read_one, read_three};
-pub use lines::{push_numbered, refused_line, words_line};
+pub use cycles::{are_cycles, cycles_in};
+pub use found::{Found, Unread, told};
+pub use inputs::Inputs;
+pub use lines::{cannot_read_bytes, push_numbered, refused_line, words_line};
+pub use numbers::{USUAL_WORK, limit_in, seed_in, signals_in};
 pub use readable::{Readable, Timed};
+pub use reader::Reader;

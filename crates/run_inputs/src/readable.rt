@@ -2,10 +2,12 @@
 
 ghost use Rattle.std.specs.Prelude.{◌≡◌, ◌<◌, ◌^◌, None, IfOk, IfErr};
 ghost use Rattle.run_inputs.specs.{Lines.{refused_line, bad_text_line}, Timed.{is_timing}};
-ghost use Rattle.run_inputs.specs.Reading.{Reader, Value, most_bytes, end_of, IsReadAs, IsRefusedFor};
+ghost use Rattle.run_inputs.specs.Reading.{Value, most_bytes, end_of, IsReadAs, IsRefusedFor};
+ghost use Rattle.run_inputs.specs.declared.reader.Reader.{Reader};
+ghost use Rattle.run_inputs.specs.declared.reader.Reader.TheVariants as reader;
 
-use crate::answer::{Unread, told};
 use crate::cause::Cause;
+use crate::found::{Unread, told};
 use crate::lines::{bad_text_line, refused_line};
 use artery_model::{Artery, Flaw, Refusal};
 use description_reader::{TypedPlan, read_artery, read_plan};
@@ -22,10 +24,10 @@ const LONG_FILE: u64 = 268_435_456;
 
 /// A value that a file is read as.
 pub trait Readable: Drop {
-    /// Its row in the table of readers.
+    /// The kind of such files.
     ghost reader: { Reader };
 
-    /// The value, as that row has it.
+    /// The value, as that kind has it.
     ghost value: { Self → Value reader };
 
     /// The most bytes of such a file.
@@ -37,14 +39,14 @@ pub trait Readable: Drop {
     fn read(alloc: Global, bytes: &[u8]) -> Result<Self, Unread>
         ensures value { IfOk result (λ v. IsReadAs reader bytes.now (value v)) }
         ensures refused { IfErr result (λ end. IfOk (end_of end) (λ a. IsRefusedFor reader bytes.now a.cause a.lines.items)) }
-        ensures no_put { IfErr result (λ end. IfOk (end_of end) (λ a. a.put ≡ None)) };
+        ensures no_put { IfErr result (λ end. IfOk (end_of end) (λ a. a.bytes ≡ None)) };
 }
 
 /// What is told of a description or a typed plan that is refused.
 fn refused(alloc: Global, refusal: Refusal) -> Unread
     ensures cause { IfOk (end_of result) (λ a. a.cause ≡ Cause.Refused refusal) }
     ensures lines { IfOk (end_of result) (λ a. a.lines.items ≡ refused_line refusal) }
-    ensures no_put { IfOk (end_of result) (λ a. a.put ≡ None) }
+    ensures no_put { IfOk (end_of result) (λ a. a.bytes ≡ None) }
 {
     match refused_line(alloc, &refusal) {
         Ok(line) => Unread::Told(told(Cause::Refused(refusal), line)),
@@ -56,7 +58,7 @@ fn refused(alloc: Global, refusal: Refusal) -> Unread
 fn bad_text(alloc: Global, bad: BadText) -> Unread
     ensures cause { IfOk (end_of result) (λ a. a.cause ≡ Cause.BadText bad) }
     ensures lines { IfOk (end_of result) (λ a. a.lines.items ≡ bad_text_line bad) }
-    ensures no_put { IfOk (end_of result) (λ a. a.put ≡ None) }
+    ensures no_put { IfOk (end_of result) (λ a. a.bytes ≡ None) }
 {
     match bad_text_line(alloc, bad) {
         Ok(line) => Unread::Told(told(Cause::BadText(bad), line)),
@@ -66,7 +68,7 @@ fn bad_text(alloc: Global, bad: BadText) -> Unread
 
 /// The artery that a description describes.
 impl Readable for Artery {
-    ghost reader = { Reader.Description };
+    ghost reader = { reader.Description };
 
     ghost value = { λ a. a };
 
@@ -85,7 +87,7 @@ impl Readable for Artery {
 
 /// The plan that a text gives, typed in seconds.
 impl Readable for TypedPlan {
-    ghost reader = { Reader.TypedPlan };
+    ghost reader = { reader.TypedPlan };
 
     ghost value = { λ p. p };
 
@@ -103,7 +105,7 @@ impl Readable for TypedPlan {
 }
 
 impl Readable for Timing {
-    ghost reader = { Reader.Timing };
+    ghost reader = { reader.Timing };
 
     ghost value = { λ t. t };
 
@@ -121,7 +123,7 @@ impl Readable for Timing {
 }
 
 impl Readable for Certificate {
-    ghost reader = { Reader.Certificate };
+    ghost reader = { reader.Certificate };
 
     ghost value = { λ w. w };
 
@@ -152,7 +154,7 @@ fn is_timing(bytes: &[u8]) -> bool
 }
 
 impl Readable for Timed {
-    ghost reader = { Reader.Timed };
+    ghost reader = { reader.Timed };
 
     ghost value = { λ t. t.timing };
 
@@ -173,7 +175,7 @@ impl Readable for Timed {
 }
 
 impl Readable for LinkCertificate {
-    ghost reader = { Reader.LinkCertificate };
+    ghost reader = { reader.LinkCertificate };
 
     ghost value = { λ w. w };
 

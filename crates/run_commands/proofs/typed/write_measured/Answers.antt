@@ -1,30 +1,21 @@
-use Rattle.std.proofs.Common.{rules, ◌≡◌, ◌++◌, Some, refl}
+use Rattle.std.proofs.Common.{rules, ◌≡◌, ◌++◌, refl}
 use Rattle.run_commands.specs.Hold.{verdict_line}
 use Rattle.run_commands.specs.Typed.{measured_lines}
 use Rattle.run_commands.proofs.typed.write_measured.Goals as goal
 
-pub returns : goal.returns
-returns c =
-    let text = c.in_ok-bytes.bytes.items in
-    let line : c.push_verdict.new.out.items ≡ measured_lines c.args.artery.now c.args.made.now ++ verdict_line c.broken.result = search rules in
-    record {
-      finds = (
-        Some text,
-        (
-          refl,
-          (
-            text,
-            refl,
-            record {
-              broken = c.broken.result;
-              judged = c.broken.ensures;
-              lines_are = line;
-              written =
-                  c.in_ok-bytes.ensures.text;
-              read_back = c.in_ok-bytes.ensures.read_back;
-            },
-          ),
-        ),
+pub returns-clause-finds : goal.returns-clause-finds
+returns-clause-finds c =
+    let line : c.push_verdict.new.out.items ≡ measured_lines c.args.artery.now c.args.made.now ++ verdict_line c.broken.result = search rules in (
+      refl,
+      (
+        c.in_ok-bytes.bytes.items,
         refl,
-      );
-    }
+        record {
+          broken = c.broken.result;
+          judged = c.broken.ensures;
+          lines_are = line;
+          written = c.in_ok-bytes.ensures.text;
+          read_back = c.in_ok-bytes.ensures.read_back;
+        },
+      ),
+    )

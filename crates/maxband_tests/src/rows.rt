@@ -1,0 +1,79 @@
+//! The row of each command, beside its usage as it was asked for.
+
+use narrow_fraction::Memory;
+use run_commands::{Row, Setting, USAGES};
+use run_inputs::Reader;
+use std::alloc::Global;
+use std::test::Fail;
+
+/// In the order of the help: the word, what the files are read as, `NEW` where the next word names a file that may be put, the words behind, and
+/// `*` where any of several best answers may be told.
+static ROWS: [&str; 18] = [
+    "solve STREET NEW [WORK] *",
+    "check STREET CERT",
+    "bands STREET TIMING",
+    "round STREET CERT NEW",
+    "round-from STREET CERT FILE NEW",
+    "half STREET TIMING NEW *",
+    "timing STREET PLAN NEW",
+    "draw STREET FILE NEW [TITLE]",
+    "renew CERT NEW",
+    "links STREET NEW [WORK] *",
+    "check-links STREET LINKS",
+    "hold STREET TIMING",
+    "show STREET",
+    "make SIGNALS SEED",
+    "trial SIGNALS SEED WORK *",
+    "sweep STREET NEW WORK CYCLE ..",
+    "--help",
+    "--version",
+];
+
+fn file_word(reader: Reader) -> &'static str {
+    match reader {
+        Reader::Description => " STREET",
+        Reader::Timing => " TIMING",
+        Reader::Certificate => " CERT",
+        Reader::LinkCertificate => " LINKS",
+        Reader::Timed => " FILE",
+        Reader::TypedPlan => " PLAN",
+    }
+}
+
+fn setting_word(setting: Setting) -> &'static str {
+    match setting {
+        Setting::Signals => " SIGNALS",
+        Setting::Seed => " SEED",
+        Setting::Limit => " WORK",
+        Setting::Work => " [WORK]",
+        Setting::Cycles => " CYCLE ..",
+        Setting::Title => " [TITLE]",
+    }
+}
+
+fn spelled(alloc: Global, row: &Row) -> Result<String, Memory> {
+    let mut text = String::from_str(alloc, row.word)?;
+    for reader in row.reads {
+        text.push_str(file_word(*reader))?;
+    }
+    if row.puts {
+        text.push_str(" NEW")?;
+    }
+    for setting in row.settings {
+        text.push_str(setting_word(*setting))?;
+    }
+    if row.chooses {
+        text.push_str(" *")?;
+    }
+    Ok(text)
+}
+
+#[test]
+fn rows_are_the_usages(rt: HostRuntime) -> Result<(), Fail> {
+    assert_eq!(rt; USAGES.len(), ROWS.len());
+    for (usage, wanted) in USAGES.iter().zip(ROWS.iter()) {
+        let text = spelled(rt.alloc(), &usage.row())?;
+        assert_eq!(rt; text.as_str(), *wanted);
+    }
+    Ok(())
+}

@@ -1,0 +1,15 @@
+use Rattle.std.proofs.Common.{refl}
+use Rattle.run_commands.proofs.solve.solve_artery.Goals as goal
+
+pub returns-clause-finds : goal.returns-clause-finds
+returns-clause-finds c = (
+  c.in_ok-searched.searched.text.items,
+  refl,
+  record {
+    found = c.in_ok-searched.searched.found;
+    searched = c.in_ok-searched.ensures.searched;
+    cause_is = c.cause_of.ensures.value;
+    lines_are = c.in_ok-lines.ensures;
+    certificate_is = c.in_ok-searched.ensures.text;
+  },
+)
