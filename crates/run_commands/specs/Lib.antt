@@ -20,6 +20,7 @@ pub mod Rows
 pub mod Help
 pub mod Trial
 pub mod Sweep
+pub mod Sensitivity
 pub mod Ends
 pub mod Table
 pub mod Words

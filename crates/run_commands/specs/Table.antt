@@ -22,10 +22,11 @@ use Rattle.run_commands.specs.Help.{HelpFinds, VersionFinds}
 use Rattle.run_commands.specs.Make.{Makes}
 use Rattle.run_commands.specs.Trial.{IsTrial}
 use Rattle.run_commands.specs.Sweep.{IsSweep}
+use Rattle.run_commands.specs.Sensitivity.{IsSensitivity}
 use Rattle.run_commands.specs.Ends.{IsDone, IsVerdict, IsTestEnd, IsCheckEnd, IsLinkCheckEnd, IsRoundEnd, IsRoundFromEnd, IsHalfEnd, IsTypedEnd, IsDrawingEnd}
 use Rattle.run_commands.specs.declared.table.Usage.{Usage}
-use Rattle.run_commands.specs.declared.table.Usage.TheVariants.{Solve, Check, Bands, Round, RoundFrom, Half, TimingOf, Draw, Renew, Links, CheckLinks, Hold, Show, Make, Trial, Sweep, Help, Version}
-use Rattle.run_commands.specs.declared.table.TheConstants.{SOLVE, CHECK, BANDS, ROUND, ROUND_FROM, HALF, TIMING_OF, DRAW, RENEW, LINKS, CHECK_LINKS, HOLD, SHOW, MAKE, TRIAL, SWEEP, HELP, VERSION, USAGES}
+use Rattle.run_commands.specs.declared.table.Usage.TheVariants.{Solve, Check, Bands, Round, RoundFrom, Half, TimingOf, Draw, Renew, Links, CheckLinks, Hold, Show, Make, Trial, Sweep, Sensitivity, Help, Version}
+use Rattle.run_commands.specs.declared.table.TheConstants.{SOLVE, CHECK, BANDS, ROUND, ROUND_FROM, HALF, TIMING_OF, DRAW, RENEW, LINKS, CHECK_LINKS, HOLD, SHOW, MAKE, TRIAL, SWEEP, SENSITIVITY, HELP, VERSION, USAGES}
 
 abbrev pub row : Usage → Row
 row Solve = row_of SOLVE
@@ -44,6 +45,7 @@ row Show = row_of SHOW
 row Make = row_of MAKE
 row Trial = row_of TRIAL
 row Sweep = row_of SWEEP
+row Sensitivity = row_of SENSITIVITY
 row Help = row_of HELP
 row Version = row_of VERSION
 
@@ -72,6 +74,7 @@ Finds Show v s c lines put = Shows v.0 c lines
 Finds Make v s c lines put = Makes s.signals s.seed c lines
 Finds Trial v s c lines put = IsTrial s.signals s.seed s.limit c lines
 Finds Sweep v s c lines put = With (IsSweep v.0 s.limit s.cycles c lines) put
+Finds Sensitivity v s c lines put = With (IsSensitivity v.0 s.limit c lines) put
 Finds Help v s c lines put = HelpFinds row USAGES c lines
 Finds Version v s c lines put = VersionFinds c lines
 
@@ -93,6 +96,7 @@ IsOwnEnd Show c = IsDone c
 IsOwnEnd Make c = IsDone c
 IsOwnEnd Trial c = IsVerdict c
 IsOwnEnd Sweep c = IsDone c
+IsOwnEnd Sensitivity c = IsDone c
 IsOwnEnd Help c = IsDone c
 IsOwnEnd Version c = IsDone c
 

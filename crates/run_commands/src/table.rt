@@ -36,12 +36,13 @@ pub enum Usage {
     Make,
     Trial,
     Sweep,
+    Sensitivity,
     Help,
     Version,
 }
 
 /// In the order of the help.
-pub const USAGES: [Usage; 18] = [
+pub const USAGES: [Usage; 19] = [
     Usage::Solve,
     Usage::Check,
     Usage::Bands,
@@ -58,6 +59,7 @@ pub const USAGES: [Usage; 18] = [
     Usage::Make,
     Usage::Trial,
     Usage::Sweep,
+    Usage::Sensitivity,
     Usage::Help,
     Usage::Version,
 ];
@@ -216,6 +218,15 @@ pub const SWEEP: Parts = (
     "maxband sweep STREET TABLE WORK CYCLE ..      search at each cycle, and put a table\n",
 );
 
+pub const SENSITIVITY: Parts = (
+    "sensitivity",
+    &[Reader::Description],
+    true,
+    &[Setting::Limit],
+    true,
+    "maxband sensitivity STREET TABLE WORK         let out one limit at a time, search, and put a table\n",
+);
+
 pub const HELP: Parts = (
     "--help",
     &[],
@@ -256,6 +267,7 @@ impl Usage {
             Usage::Make => MAKE,
             Usage::Trial => TRIAL,
             Usage::Sweep => SWEEP,
+            Usage::Sensitivity => SENSITIVITY,
             Usage::Help => HELP,
             Usage::Version => VERSION,
         };
