@@ -43,9 +43,13 @@ all_timed a rows = flat_map (λ row. timed_of a row.change row.outcome) rows
 abbrev pub placed : Timed → List Timed → List Timed
 placed x others = let place = position_or_len (λ y. is_less y.value x.value) others in take place others ++ x ∷ drop place others
 
+-- put where it belongs, if it gains
+abbrev pub with_one : ℚ → Timed → List Timed → List Timed
+with_one base x others = if is_less base x.value then placed x others else others
+
 abbrev pub ranked_onto : ℚ → List Timed → List Timed → List Timed
 ranked_onto base others [] = others
-ranked_onto base others (x ∷ xs) = ranked_onto base (if is_less base x.value then placed x others else others) xs
+ranked_onto base others (x ∷ xs) = ranked_onto base (with_one base x others) xs
 
 -- with no timing as the street is, all that have one, in their order
 abbrev pub told : Option ℚ → List Timed → List Timed

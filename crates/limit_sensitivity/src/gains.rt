@@ -1,7 +1,7 @@
 //! What a change gains.
 
-ghost use Rattle.std.specs.Prelude.{◌≡◌, ◌++◌, ◌≤◌, ◌^◌, IfSome, IfOk, OnOk};
-ghost use Rattle.rational_theory.specs.Rational.{◌-ℚ◌, ◌*ℚ◌};
+ghost use Rattle.std.specs.Prelude.{◌≡◌, ◌++◌, ◌≤◌, ◌^◌, pos, ◌≤ℤ◌, ◌<ℤ◌, IfSome, IfOk, OnOk};
+ghost use Rattle.rational_theory.specs.Rational.{neg_ℚ, ◌-ℚ◌, ◌*ℚ◌};
 ghost use Rattle.limit_sensitivity.specs.Gains.{if_short, difference, product, signed_spelling, exact_or_wide, decimal_or_wide};
 
 use narrow_fraction::{Frac, Memory};
@@ -23,6 +23,7 @@ pub(crate) fn if_short(value: Frac) -> Option<Frac>
 }
 
 /// The difference of two numbers, or None where it is too wide to be told.
+#[tactic(auto, using(crate::proofs::Fitting::difference_fits, crate::proofs::Fitting::difference_past))]
 pub(crate) fn difference(left: Frac, right: Frac) -> Option<Frac>
     ensures value { result ≡ difference left right }
     ensures short { IfSome result (λ x. x.den ≤ 2 ^ 120) }
@@ -34,6 +35,7 @@ pub(crate) fn difference(left: Frac, right: Frac) -> Option<Frac>
 }
 
 /// The product of two numbers, or None where it is too wide to be told.
+#[tactic(auto, using(crate::proofs::Fitting::product_fits, crate::proofs::Fitting::product_past))]
 pub(crate) fn product(left: Frac, right: Frac) -> Option<Frac>
     ensures value { result ≡ product left right }
     ensures short { IfSome result (λ x. x.den ≤ 2 ^ 120) }
@@ -42,6 +44,18 @@ pub(crate) fn product(left: Frac, right: Frac) -> Option<Frac>
         Ok(value) => if_short(value),
         Err(_) => None,
     }
+}
+
+/// A number below 0 without its sign.
+#[tactic(auto, using(crate::proofs::Fitting::above_zero, crate::proofs::Fitting::same_den))]
+fn without_minus(value: Frac) -> Frac
+    requires below { value.num <ℤ pos 0 }
+    requires denominator { value.den ≤ 2 ^ 120 }
+    ensures value { result ≡ neg_ℚ value }
+    ensures least { pos 0 ≤ℤ result.num }
+    ensures denominator { result.den ≤ 2 ^ 120 }
+{
+    value.neg()
 }
 
 /// Writes a number as a decimal that is cut after so many places, with a minus where it is below 0.
@@ -53,7 +67,7 @@ pub(crate) fn push_signed(out: &mut Vec<u8>, value: Frac, places: u32) -> Result
 {
     if value.num() < 0 {
         push_text(out, "-")?;
-        push_decimal(out, value.neg(), places)
+        push_decimal(out, without_minus(value), places)
     } else {
         push_decimal(out, value, places)
     }

@@ -1,6 +1,6 @@
 //! A search for each change.
 
-ghost use Rattle.std.specs.Prelude.{◌≡◌, ◌++◌, [], ◌∷◌, IfOk, OnOk};
+ghost use Rattle.std.specs.{Prelude.{◌≡◌, ◌++◌, [], ◌∷◌, IfOk, OnOk}, List.{AllZip}};
 ghost use Rattle.work_meter.specs.Work.{IsBelow};
 ghost use Rattle.street_changes.specs.Changed.{changed, IsChanged};
 ghost use Rattle.limit_sensitivity.specs.Rows.{IsOutcome, IsEnd, IsRow, AreRows};
@@ -69,6 +69,23 @@ fn push(rows: &mut Vec<SensitivityRow>, row: SensitivityRow) -> Result<(), Memor
     Ok(())
 }
 
+fn rows_of(
+    alloc: Global,
+    artery: &Artery,
+    limit: Option<u64>,
+    list: &[Change],
+) -> Result<Vec<SensitivityRow>, Memory>
+    requires { IsBelow 0 limit }
+    ensures { IfOk result (λ rows. AllZip (IsRow artery.now limit) list.now rows.items) }
+{
+    let mut rows = Vec::new(alloc);
+    for change in list {
+        let row = row_at(alloc, artery, limit, *change)?;
+        push(&mut rows, row)?;
+    }
+    Ok(rows)
+}
+
 /// A row for each of the street's changes, the first for none: what a search of the street with the change finds, whose certificate was
 /// checked, or nothing where a description may not have the street with it.
 ///
@@ -82,10 +99,5 @@ pub fn sensitivity_rows(
     ensures { IfOk result (λ rows. AreRows artery.now limit rows.items) }
 {
     let list = changes(alloc, artery)?;
-    let mut rows = Vec::new(alloc);
-    for change in list.as_slice() {
-        let row = row_at(alloc, artery, limit, *change)?;
-        push(&mut rows, row)?;
-    }
-    Ok(rows)
+    rows_of(alloc, artery, limit, list.as_slice())
 }

@@ -2,7 +2,7 @@
 
 ghost use Rattle.std.specs.{Prelude.{◌≡◌, ◌++◌, ◌∷◌, [], ◌≤◌, ◌^◌, Some, None, IfOk, OnOk, IfSome}, List.{flat_map}};
 ghost use Rattle.cycle_sweep.specs.Table.{dash, number_text, bound_of};
-ghost use Rattle.limit_sensitivity.specs.Table.{decimal_text, gain_fields, header_fields, change_fields, told_fields, outcome_fields, row_fields, record_text, sensitivity_text};
+ghost use Rattle.limit_sensitivity.specs.Table.{decimal_text, gain_fields, change_names, value_names, gain_names, header_fields, change_fields, told_fields, outcome_fields, row_fields, record_text, sensitivity_text};
 
 use crate::gains::{difference, push_decimal_or_wide, push_exact_or_wide, push_signed};
 use crate::ranking::{base_of, timing_value};
@@ -190,20 +190,38 @@ fn push_row(
     push_record(table, &record)
 }
 
+fn push_change_names(record: &mut Record) -> Result<(), Memory>
+    ensures { OnOk result (record.new ≡ record.old ++ change_names) }
+{
+    record.push("change".as_bytes())?;
+    record.push("place".as_bytes())?;
+    record.push("name".as_bytes())
+}
+
+fn push_value_names(record: &mut Record) -> Result<(), Memory>
+    ensures { OnOk result (record.new ≡ record.old ++ value_names) }
+{
+    record.push("verdict".as_bytes())?;
+    record.push("weighted".as_bytes())?;
+    record.push("weighted_d".as_bytes())
+}
+
+fn push_gain_names(record: &mut Record) -> Result<(), Memory>
+    ensures { OnOk result (record.new ≡ record.old ++ gain_names) }
+{
+    record.push("gain".as_bytes())?;
+    record.push("gain_d".as_bytes())?;
+    record.push("bound".as_bytes())?;
+    record.push("cause".as_bytes())
+}
+
 fn push_header(table: &mut Vec<u8>) -> Result<(), Memory>
     ensures { OnOk result (table.new.items ≡ table.old.items ++ record_text header_fields) }
 {
     let mut record = Record::new(*table.allocator());
-    record.push("change".as_bytes())?;
-    record.push("place".as_bytes())?;
-    record.push("name".as_bytes())?;
-    record.push("verdict".as_bytes())?;
-    record.push("weighted".as_bytes())?;
-    record.push("weighted_d".as_bytes())?;
-    record.push("gain".as_bytes())?;
-    record.push("gain_d".as_bytes())?;
-    record.push("bound".as_bytes())?;
-    record.push("cause".as_bytes())?;
+    push_change_names(&mut record)?;
+    push_value_names(&mut record)?;
+    push_gain_names(&mut record)?;
     push_record(table, &record)
 }
 

@@ -8,7 +8,7 @@ use std::test::Fail;
 
 /// In the order of the help: the word, what the files are read as, `NEW` where the next word names a file that may be put, the words behind, and
 /// `*` where any of several best answers may be told.
-static ROWS: [&str; 18] = [
+static ROWS: [&str; 19] = [
     "solve STREET NEW [WORK] *",
     "check STREET CERT",
     "bands STREET TIMING",
@@ -25,6 +25,7 @@ static ROWS: [&str; 18] = [
     "make SIGNALS SEED",
     "trial SIGNALS SEED WORK *",
     "sweep STREET NEW WORK CYCLE ..",
+    "sensitivity STREET NEW WORK *",
     "--help",
     "--version",
 ];
