@@ -1,5 +1,5 @@
 -- What a command finds of the same values is one thing, or a verdict of a search.
-use Rattle.std.specs.Prelude.{option_map}
+use Rattle.std.specs.Prelude.{option_map, if◌then◌else◌}
 use Rattle.plan_text.specs.Spelling.{timing_text}
 use Rattle.std.proofs.Common.{arith, pos, ◌*ℤ◌, ◌++◌, ◌*◌, ◌⊎◌, ap₂, ◌≤◌, ◌≡◌, ℕ, Bool, true, false, List, [], ◌∷◌, Option, Some, None, inl, inr, refl, sym, ◌∙◌, ap, subst}
 use Rattle.progression.specs.Street.{Street, count}
@@ -23,7 +23,6 @@ use Rattle.branch_and_bound.specs.declared.found.Verdict.TheVariants.{Best, NoTi
 use Rattle.branch_tree.specs.declared.site.SitePart.{SitePart}
 use Rattle.workload_maker.specs.Made.{made_street}
 use Rattle.artery_model.specs.Faults.{fault_of}
-use Rattle.half_integer.specs.declared.end.HalfEnd.TheVariants as half_end
 use Rattle.description_reader.specs.Typed.{Typed}
 use Rattle.typed_plan.specs.Counts.{count_fault}
 use Rattle.typed_plan.specs.Grid.{too_fine}
@@ -31,9 +30,9 @@ use Rattle.typed_plan.specs.Ends.{OneTiming}
 use Rattle.typed_plan.specs.declared.timing.Measured.{Measured}
 use Rattle.run_inputs.specs.Lines.{refused_line}
 use Rattle.run_commands.specs.Lines.{fails_line}
-use Rattle.run_inputs.specs.Command.{Request, Hold, Show, Check, CheckLinks, Solve, Links, Renew, Bands, Round, RoundFrom, Half, TimingOf, Draw, Help, Version, Make, Trial, Sweep, shape}
 use Rattle.run_inputs.specs.Puts.{NamedBytes, put_of}
-use Rattle.run_inputs.specs.Reading.{Input, Value, Values}
+use Rattle.run_inputs.specs.Reading.{Value, Values}
+use Rattle.run_inputs.specs.declared.reader.Reader.{Reader}
 use Rattle.run_commands.specs.Searched.{cause_of}
 use Rattle.run_commands.specs.Hold.{HoldFinds, IsJudged, verdict_line}
 use Rattle.run_commands.specs.Show.{Shows}
@@ -51,11 +50,16 @@ use Rattle.certificate_checker.specs.Accepted.{limit_of, IsAccepted}
 use Rattle.progression.specs.Good.{Good}
 use Rattle.rational_theory.specs.Rational.{ℚ}
 use Rattle.run_commands.specs.Round.{plan_lines, unplanned_line, IsCertified, IsRounded, IsUnfit, Unplans, RoundFinds, RoundFromFinds}
-use Rattle.run_commands.specs.Half.{end_line, HalfFinds}
+use Rattle.run_commands.specs.Half.{ticks_line, end_line, HalfFinds}
 use Rattle.run_commands.specs.Typed.{measured_lines, WritesTiming, TypedFinds}
 use Rattle.run_commands.specs.Draw.{drawn_lines, DrawFinds}
-use Rattle.maxband_run.specs.Run.{Finds}
-use Rattle.run_laws.specs.Laws.{IsVerdict, SamePut, Same, Agree}
+use Rattle.run_commands.specs.Ends.{IsVerdict}
+use Rattle.run_commands.specs.Settings.{Settings}
+use Rattle.run_commands.specs.Table.{row, readers, Finds}
+use Rattle.run_commands.specs.Words.{Request}
+use Rattle.run_commands.specs.declared.table.Usage.{Usage}
+use Rattle.run_commands.specs.declared.table.Usage.TheVariants as usage
+use Rattle.run_laws.specs.Laws.{SameBytes, SamePut, Agree}
 use Rattle.run_inputs.specs.declared.cause.Cause.{Cause}
 use Rattle.run_inputs.specs.declared.cause.Cause.TheVariants as cause
 use Rattle.run_laws.proofs.Readers.{same_refusal}
@@ -71,10 +75,6 @@ verdict_reached cause.Done v = tt
 verdict_reached cause.NoTiming v = tt
 verdict_reached (cause.Stopped stop) v = tt
 verdict_reached c v = absurd v
-
-pub show_done : (a : Street) (c : Cause) (l : List ℕ) → Shows a c l → c ≡ cause.Done
-show_done a cause.Done l h = refl
-show_done a c l h = absurd h
 
 -- ---- each command
 hold_once : OneFirst → FailsRulesOut → (a : Street) (t : TimingRecord) (c d : Cause) (x y : List ℕ) → HoldFinds a t c x → HoldFinds a t d y → (c ≡ d) × (x ≡ y)
@@ -271,7 +271,7 @@ module _ (one : OneTiming) (one_first : OneFirst) (out : FailsRulesOut) (a : Str
   typed_once c d x y s u (inr (inr h)) (inr (inl k)) = absurd (no_value (count_fault a p) (fault_of k.refusal) k.first h.first.0)
   typed_once c d x y s u (inr (inr h)) (inr (inr k)) =
       let e = sym (same_value (too_fine a p) h.ticks k.ticks h.first.1 k.first.1) in
-      (h.cause_is ∙ ap (λ n. cause.Unmatched (half_end.TooFine n)) e ∙ sym k.cause_is, h.lines_are ∙ ap (λ n. end_line (half_end.TooFine n)) e ∙ sym k.lines_are, h.no_put ∙ sym k.no_put)
+      (h.cause_is ∙ ap cause.TooFine e ∙ sym k.cause_is, h.lines_are ∙ ap ticks_line e ∙ sym k.lines_are, h.no_put ∙ sym k.no_put)
 
 draw_once : OneFirst → FailsRulesOut → (a : Street) (o : Option TimingRecord) (title : Option (List ℕ)) (c d : Cause) (x y : List ℕ) (s u : Option (List ℕ))
     → DrawFinds a o title c x s → DrawFinds a o title d y u → (c ≡ d) × (x ≡ y) × (s ≡ u)
@@ -289,70 +289,83 @@ draw_once one_first rules a (Some t) title (cause.Fails f) d x y s u h k = absur
 draw_once one_first rules a (Some t) title c d x y s u h k = absurd h
 
 -- ---- what is put
-put_alike : (name : List ℕ) (s t : Option (List ℕ)) → s ≡ t → put_of (Some name) s ≡ put_of (Some name) t
-put_alike name s t e = ap (put_of (Some name)) e
+put_alike : (output s t : Option (List ℕ)) → s ≡ t → put_of output s ≡ put_of output t
+put_alike output s t e = ap (put_of output) e
+
+same_name : (output : Option (List ℕ)) (x y : List ℕ) → option_map (λ b. b.name) (put_of output (Some x)) ≡ option_map (λ b. b.name) (put_of output (Some y))
+same_name None x y = refl
+same_name (Some name) x y = refl
 
 -- bytes are put into one file, whatever they are
-name_alike : (name : List ℕ) (s t : Option (List ℕ)) (x y : List ℕ) → s ≡ Some x → t ≡ Some y → option_map (λ b. b.name) (put_of (Some name) s) ≡ option_map (λ b. b.name) (put_of (Some name) t)
-name_alike name s t x y e f = ap (λ o. option_map (λ b. b.name) (put_of (Some name) o)) e ∙ sym (ap (λ o. option_map (λ b. b.name) (put_of (Some name) o)) f)
+name_alike : (output s t : Option (List ℕ)) (x y : List ℕ) → s ≡ Some x → t ≡ Some y → option_map (λ b. b.name) (put_of output s) ≡ option_map (λ b. b.name) (put_of output t)
+name_alike output s t x y e f =
+    ap (λ o. option_map (λ b. b.name) (put_of output o)) e ∙ same_name output x y ∙ sym (ap (λ o. option_map (λ b. b.name) (put_of output o)) f)
+
+same_bytes : (u : Usage) (p q : Option NamedBytes) → p ≡ q → SameBytes u p q
+same_bytes usage.Sweep p q e = ap (option_map (λ b. b.name)) e
+same_bytes u p q e = e
 
 pub put_same : (asked : Option Request) (p q : Option NamedBytes) → p ≡ q → SamePut asked p q
-put_same (Some (Sweep artery table limit cycles)) p q e = ap (option_map (λ b. b.name)) e
-put_same asked p q e = e
+put_same None p q e = e
+put_same (Some r) p q e = same_bytes r.usage p q e
 
 -- ---- every command
+-- the same cause and lines, and the same bytes, as this command puts them
+pub record Alike (u : Usage) (output : Option (List ℕ)) (c d : Cause) (x y : List ℕ) (s t : Option (List ℕ)) : Type 0 where
+  pub cause : c ≡ d
+  pub lines : x ≡ y
+  pub put : SameBytes u (put_of output s) (put_of output t)
+
+-- of a command that puts nothing
+told_once : (u : Usage) (c d : Cause) (x y : List ℕ) (s t : Option (List ℕ)) → (c ≡ d) × (x ≡ y) → Alike u None c d x y s t
+told_once u c d x y s t e = record { cause = e.0; lines = e.1; put = same_bytes u None None refl }
+
+alike : (u : Usage) (output : Option (List ℕ)) (c d : Cause) (x y : List ℕ) (s t : Option (List ℕ)) → (c ≡ d) × (x ≡ y) × (s ≡ t) → Alike u output c d x y s t
+alike u output c d x y s t e = record { cause = e.0; lines = e.1; put = same_bytes u (put_of output s) (put_of output t) (put_alike output s t e.2) }
+
 module _ (one_text : OneText) (one_first : OneFirst) (rules : FailsRulesOut) (apart : RefusedIsNotAccepted) (once : OneFirstRefusal) (widest : OneWidest) (finer : FinerPairs)
     (one_timing : OneTiming) (ends : OneEnd) (plan_ends : second.OneEnd) (plan_or : PlanOrEnd) (one_plan : OnePlan) (links_apart : LinkRefusedIsNotAccepted) (links_once : OneFirstLinkRefusal) where
-  -- of a command that puts nothing
-  told_once : (asked : Option Request) (c d : Cause) (x y : List ℕ) → SamePut asked None None → (c ≡ d) × (x ≡ y) → Same asked c x None d y None
-  told_once asked c d x y p e = record { cause = e.0; lines = e.1; put = p }
-
-  pub finds_once : (asked : Option Request) (v : Values (shape asked).inputs) (c d : Cause) (x y : List ℕ) (s t : Option (List ℕ))
-      → Finds asked v c x s → Finds asked v d y t
-      → Agree (shape asked).chooses (shape asked).inputs (Same asked c x (put_of (shape asked).output s) d y (put_of (shape asked).output t)) (IsVerdict c × IsVerdict d)
-  finds_once None v c d x y s t h k = told_once None c d x y refl (h.0 ∙ sym k.0, h.1 ∙ sym k.1)
-  finds_once (Some (Hold artery timing)) v c d x y s t h k = told_once (Some (Hold artery timing)) c d x y refl (hold_once one_first rules v.0 v.1.0 c d x y h k)
-  finds_once (Some (Show artery)) v c d x y s t h k = told_once (Some (Show artery)) c d x y refl (show_once one_text v.0 c d x y h k)
-  finds_once (Some (Check artery certificate)) v c d x y s t h k =
-      told_once (Some (Check artery certificate)) c d x y refl (checks_once whole_bands whole_checked once v.0 v.1.0 apart c d x y h k)
-  finds_once (Some (CheckLinks artery certificate)) v c d x y s t h k =
-      told_once (Some (CheckLinks artery certificate)) c d x y refl (checks_once bands_of_links links_checked links_once v.0 v.1.0 links_apart c d x y h k)
-  finds_once (Some (Solve artery certificate limit)) v c d x y s t h k =
-      inr (verdict_cause c h.2.found.verdict h.2.cause_is, verdict_cause d k.2.found.verdict k.2.cause_is)
-  finds_once (Some (Links artery certificate limit)) v c d x y s t h k =
-      inr (verdict_cause c h.2.found.verdict h.2.cause_is, verdict_cause d k.2.found.verdict k.2.cause_is)
-  finds_once (Some (Renew certificate new)) v c d x y s t h k = record {
-    cause = h.2.cause_is ∙ sym k.2.cause_is;
-    lines = h.2.lines_are ∙ sym k.2.lines_are;
-    put = put_alike new s t (h.1 ∙ ap Some (h.2.text_is.written ∙ sym k.2.text_is.written) ∙ sym k.1);
-  }
-  finds_once (Some (Bands artery timing)) v c d x y s t h k = told_once (Some (Bands artery timing)) c d x y refl (bands_once one_first widest finer v.0 v.1.0 c d x y h k)
-  finds_once (Some (Round artery certificate plan)) v c d x y s t h k =
-      let e = from_once plan_ends plan_or one_plan v.0 v.1.0 v.1.0.timing one_first rules apart once c d x y s t (own_from v.0 v.1.0 c x s h) (own_from v.0 v.1.0 d y t k) in
-      record { cause = e.0; lines = e.1; put = put_alike plan s t e.2 }
-  finds_once (Some (RoundFrom artery certificate other plan)) v c d x y s t h k =
-      let e = from_once plan_ends plan_or one_plan v.0 v.1.0 v.1.1.0 one_first rules apart once c d x y s t h k in
-      record { cause = e.0; lines = e.1; put = put_alike plan s t e.2 }
-  finds_once (Some (Half artery timing new)) v c d x y s t h k = elim (half_once one_first ends v.0 v.1.0 c d x y s t h k) [
-    | inl e ↦ inl (record { cause = e.0; lines = e.1; put = put_alike new s t e.2 })
+  pub finds_once : (u : Usage) (n : Settings) (output : Option (List ℕ)) (v : Values (readers u)) (c d : Cause) (x y : List ℕ) (s t : Option (List ℕ))
+      → Finds u v n c x s → Finds u v n d y t
+      → Agree (row u).chooses (readers u) (Alike u (if (row u).puts then output else None) c d x y s t) (IsVerdict c × IsVerdict d)
+  finds_once usage.Hold n output v c d x y s t h k = told_once usage.Hold c d x y s t (hold_once one_first rules v.0 v.1.0 c d x y h k)
+  finds_once usage.Show n output v c d x y s t h k = told_once usage.Show c d x y s t (show_once one_text v.0 c d x y h k)
+  finds_once usage.Check n output v c d x y s t h k = told_once usage.Check c d x y s t (checks_once whole_bands whole_checked once v.0 v.1.0 apart c d x y h k)
+  finds_once usage.CheckLinks n output v c d x y s t h k =
+      told_once usage.CheckLinks c d x y s t (checks_once bands_of_links links_checked links_once v.0 v.1.0 links_apart c d x y h k)
+  finds_once usage.Solve n output v c d x y s t h k = inr (verdict_cause c h.2.found.verdict h.2.cause_is, verdict_cause d k.2.found.verdict k.2.cause_is)
+  finds_once usage.Links n output v c d x y s t h k = inr (verdict_cause c h.2.found.verdict h.2.cause_is, verdict_cause d k.2.found.verdict k.2.cause_is)
+  finds_once usage.Renew n output v c d x y s t h k =
+      alike usage.Renew output c d x y s t
+      (h.2.cause_is ∙ sym k.2.cause_is, h.2.lines_are ∙ sym k.2.lines_are, h.1 ∙ ap Some (h.2.text_is.written ∙ sym k.2.text_is.written) ∙ sym k.1)
+  finds_once usage.Bands n output v c d x y s t h k = told_once usage.Bands c d x y s t (bands_once one_first widest finer v.0 v.1.0 c d x y h k)
+  finds_once usage.Round n output v c d x y s t h k =
+      alike usage.Round output c d x y s t
+      (from_once plan_ends plan_or one_plan v.0 v.1.0 v.1.0.timing one_first rules apart once c d x y s t (own_from v.0 v.1.0 c x s h) (own_from v.0 v.1.0 d y t k))
+  finds_once usage.RoundFrom n output v c d x y s t h k =
+      alike usage.RoundFrom output c d x y s t (from_once plan_ends plan_or one_plan v.0 v.1.0 v.1.1.0 one_first rules apart once c d x y s t h k)
+  finds_once usage.Half n output v c d x y s t h k = elim (half_once one_first ends v.0 v.1.0 c d x y s t h k) [
+    | inl e ↦ inl (alike usage.Half output c d x y s t e)
     | inr e ↦ inr e
   ]
-  finds_once (Some (TimingOf artery plan timing)) v c d x y s t h k =
-      let e = typed_once one_timing one_first rules v.0 v.1.0 c d x y s t h k in
-      record { cause = e.0; lines = e.1; put = put_alike timing s t e.2 }
-  finds_once (Some (Draw artery timed drawing title)) v c d x y s t h k =
-      let e = draw_once one_first rules v.0 v.1.0 title c d x y s t h k in
-      record { cause = e.0; lines = e.1; put = put_alike drawing s t e.2 }
-  finds_once (Some Help) v c d x y s t h k = told_once (Some Help) c d x y refl (h.0 ∙ sym k.0, h.1 ∙ sym k.1)
-  finds_once (Some Version) v c d x y s t h k = told_once (Some Version) c d x y refl (h.0 ∙ sym k.0, h.1 ∙ sym k.1)
-  finds_once (Some (Make signals seed)) v c d x y s t h k = told_once (Some (Make signals seed)) c d x y refl (show_once one_text (made_street signals seed) c d x y h k)
-  finds_once (Some (Trial signals seed limit)) v c d x y s t h k =
-      (verdict_cause c h.found.verdict h.cause_is, verdict_cause d k.found.verdict k.cause_is)
-  finds_once (Some (Sweep artery table limit cycles)) v c d x y s t h k =
-      record { cause = h.2.cause_is ∙ sym k.2.cause_is; lines = h.2.lines_are ∙ sym k.2.lines_are; put = name_alike table s t h.0 k.0 h.1 k.1 }
+  finds_once usage.TimingOf n output v c d x y s t h k = alike usage.TimingOf output c d x y s t (typed_once one_timing one_first rules v.0 v.1.0 c d x y s t h k)
+  finds_once usage.Draw n output v c d x y s t h k = alike usage.Draw output c d x y s t (draw_once one_first rules v.0 v.1.0 n.title c d x y s t h k)
+  finds_once usage.Help n output v c d x y s t h k = told_once usage.Help c d x y s t (h.0 ∙ sym k.0, h.1 ∙ sym k.1)
+  finds_once usage.Version n output v c d x y s t h k = told_once usage.Version c d x y s t (h.0 ∙ sym k.0, h.1 ∙ sym k.1)
+  finds_once usage.Make n output v c d x y s t h k = told_once usage.Make c d x y s t (show_once one_text (made_street n.signals n.seed) c d x y h k)
+  finds_once usage.Trial n output v c d x y s t h k = (verdict_cause c h.found.verdict h.cause_is, verdict_cause d k.found.verdict k.cause_is)
+  finds_once usage.Sweep n output v c d x y s t h k =
+      record { cause = h.2.cause_is ∙ sym k.2.cause_is; lines = h.2.lines_are ∙ sym k.2.lines_are; put = name_alike output s t h.0 k.0 h.1 k.1 }
 
 -- files that stop the reading in one way
-pub stops_agree : (chooses : Bool) (is : List Input) (same verdicts : Type 0) → (is ≡ [] → ⊥) → same → Agree chooses is same verdicts
-stops_agree false is same verdicts n e = e
+pub stops_agree : (chooses : Bool) (rs : List Reader) (same verdicts : Type 0) → (rs ≡ [] → ⊥) → same → Agree chooses rs same verdicts
+stops_agree false rs same verdicts n e = e
 stops_agree true [] same verdicts n e = absurd (n refl)
-stops_agree true (i ∷ is) same verdicts n e = inl e
+stops_agree true (r ∷ rs) same verdicts n e = inl e
+
+-- what agrees in one way does in another that follows from it
+pub agree_by : (chooses : Bool) (rs : List Reader) (same also verdicts : Type 0) → (same → also) → Agree chooses rs same verdicts → Agree chooses rs also verdicts
+agree_by false rs same also verdicts f e = f e
+agree_by true [] same also verdicts f e = e
+agree_by true (r ∷ rs) same also verdicts f (inl e) = inl (f e)
+agree_by true (r ∷ rs) same also verdicts f (inr e) = inr e

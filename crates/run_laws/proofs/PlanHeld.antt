@@ -16,9 +16,10 @@ use Rattle.certificate_checker.specs.Laws.{RefusedIsNotAccepted}
 use Rattle.certificate_checker.proofs.Meaning.{accepted_holds}
 use Rattle.plan_text.specs.Spelling.{timing_text}
 use Rattle.plan_text.specs.Reading.{timing_of}
-use Rattle.run_inputs.specs.Command.{Hold, Round, RoundFrom}
+use Rattle.run_laws.specs.Asked as ask
 use Rattle.maxband_run.specs.Outside.{Outside}
-use Rattle.run_inputs.specs.Reading.{Reads, Description, Timing, Timed}
+use Rattle.run_inputs.specs.Reading.{Reads}
+use Rattle.run_inputs.specs.declared.reader.Reader.TheVariants.{Description, Timing, Timed}
 use Rattle.run_commands.specs.Hold.{HoldFinds}
 use Rattle.maxband_run.specs.Run.{Ends}
 use Rattle.run_laws.specs.PlanLaws.{PutsPlan, PutsOwnPlan, PutsOtherPlan, RoundSays, RoundFromSays, PlanIsHeld}
@@ -27,7 +28,7 @@ use Rattle.run_inputs.specs.declared.cause.Cause.{Cause}
 use Rattle.run_inputs.specs.declared.cause.Cause.TheVariants as cause
 use Rattle.run_laws.proofs.Complete.{Completes}
 use Rattle.run_laws.proofs.PutRead.{verdict_found, is_put, reads_put, finds_of}
-use Rattle.run_laws.proofs.Found.{Found, zero_is, found_done, found_four}
+use Rattle.run_laws.proofs.Found.{Found, zero_is, found_done, found_four, found_ten}
 use Rattle.run_commands.proofs.Planning.{claim_bounds}
 use Rattle.run_laws.proofs.PlansSay.{round_four, round_ten, from_four, from_ten}
 use Rattle.run_laws.proofs.InSeconds.{cycle_told, offset_told}
@@ -61,11 +62,11 @@ rounded_put before now plan a w o lines text r held told = record {
 }
 
 module _ (before now : Outside) (artery certificate plan : List ℕ) where
-  puts_plan : Completes before now (Some (Round artery certificate plan)) cause.Done → PutsOwnPlan before now artery certificate plan
+  puts_plan : Completes before now (ask.round artery certificate plan) cause.Done → PutsOwnPlan before now artery certificate plan
   puts_plan h =
-      let f = verdict_found before.holds before.reads now.reads (Some (Round artery certificate plan)) cause.Done h.0 h.1 tt h.2 in
-      let held = is_put before now plan f.finds.0 h.0 h.1 f.bytes f.put_is f.finds.1 h.3 in
-      let r = f.finds.2 in
+      let f = verdict_found before.holds before.reads now.reads (ask.round artery certificate plan) cause.Done h.0 h.1 tt h.2 in
+      let held = is_put before now plan f.finds.finds.0 h.0 h.1 f.bytes f.put_is f.finds.finds.1 h.3 in
+      let r = f.finds.finds.2 in
       record {
         street = f.values.0;
         warrant = f.values.1.0;
@@ -74,26 +75,26 @@ module _ (before now : Outside) (artery certificate plan : List ℕ) where
         text = f.read.1.0;
         accepted = r.certified.accepted;
         given_is = r.certified.timing_is;
-        puts = rounded_put before now plan f.values.0 f.values.1.0 f.values.1.0.timing h.0 f.finds.0 r held.0 h.3.written;
+        puts = rounded_put before now plan f.values.0 f.values.1.0 f.values.1.0.timing h.0 f.finds.finds.0 r held.0 h.3.written;
       }
 
   -- and the description is as it was, where it is another file
-  kept_artery : (artery ≡ plan → ⊥) → Completes before now (Some (Round artery certificate plan)) cause.Done → now.holds artery ≡ before.holds artery
+  kept_artery : (artery ≡ plan → ⊥) → Completes before now (ask.round artery certificate plan) cause.Done → now.holds artery ≡ before.holds artery
   kept_artery two h =
-      let f = verdict_found before.holds before.reads now.reads (Some (Round artery certificate plan)) cause.Done h.0 h.1 tt h.2 in
-      (is_put before now plan f.finds.0 h.0 h.1 f.bytes f.put_is f.finds.1 h.3).1 artery two
+      let f = verdict_found before.holds before.reads now.reads (ask.round artery certificate plan) cause.Done h.0 h.1 tt h.2 in
+      (is_put before now plan f.finds.finds.0 h.0 h.1 f.bytes f.put_is f.finds.finds.1 h.3).1 artery two
 
 pub round_says : RefusedIsNotAccepted → RoundSays
 round_says apart before now artery certificate plan c h = (
-  (λ e. puts_plan before now artery certificate plan (subst (λ (d : Cause). Ends before now (Some (Round artery certificate plan)) d) (zero_is c e) h)),
-  (λ e. round_four before now artery certificate plan apart c e (found_four before now (Some (Round artery certificate plan)) c e h)),
-  (λ e. round_ten before now artery certificate plan c e h),
+  (λ e. puts_plan before now artery certificate plan (subst (λ (d : Cause). Ends before now (ask.round artery certificate plan) d) (zero_is c e) h)),
+  (λ e. round_four before now artery certificate plan apart c e (found_four before now (ask.round artery certificate plan) c e h)),
+  (λ e. round_ten before now artery certificate plan c e (found_ten before now (ask.round artery certificate plan) c e h)),
 )
 
-puts_other : (before now : Outside) (artery certificate other plan : List ℕ) → Found before now (Some (RoundFrom artery certificate other plan)) cause.Done
+puts_other : (before now : Outside) (artery certificate other plan : List ℕ) → Found before now (ask.round_from artery certificate other plan) cause.Done
     → PutsOtherPlan before now artery certificate other plan
 puts_other before now artery certificate other plan f =
-    let k = f.answer.finds in
+    let k = f.answer.finds.finds in
     let r = k.2 in
     record {
       street = f.answer.values.0;
@@ -109,9 +110,9 @@ puts_other before now artery certificate other plan f =
 
 pub round_from_says : RefusedIsNotAccepted → FailsRulesOut → RoundFromSays
 round_from_says apart rules before now artery certificate other plan c h = (
-  (λ e. puts_other before now artery certificate other plan (found_done before now (Some (RoundFrom artery certificate other plan)) c e h)),
-  (λ e. from_four before now artery certificate other plan apart rules c e (found_four before now (Some (RoundFrom artery certificate other plan)) c e h)),
-  (λ e. from_ten before now artery certificate other plan c e h),
+  (λ e. puts_other before now artery certificate other plan (found_done before now (ask.round_from artery certificate other plan) c e h)),
+  (λ e. from_four before now artery certificate other plan apart rules c e (found_four before now (ask.round_from artery certificate other plan) c e h)),
+  (λ e. from_ten before now artery certificate other plan c e (found_ten before now (ask.round_from artery certificate other plan) c e h)),
 )
 
 good_done : FailsRulesOut → (a : Street) (t : TimingRecord) (c : Cause) (lines : List ℕ) → Good a t → HoldFinds a t c lines → c ≡ cause.Done
@@ -121,11 +122,11 @@ good_done rules a t c lines good h = absurd h
 
 pub plan_held : OneReading → FailsRulesOut → PlanIsHeld
 plan_held reader rules before between now artery certificate plan c d two told put_told few e h m k =
-    let done = subst (λ (b : Cause). Ends before between (Some (Round artery certificate plan)) b) (zero_is c e) h in
+    let done = subst (λ (b : Cause). Ends before between (ask.round artery certificate plan) b) (zero_is c e) h in
     let p = puts_plan before between artery certificate plan done in
     let kept = kept_artery before between artery certificate plan two done in
     let made = p.puts.timing in
     let reads = reads_put Timing (between.holds plan) (timing_text made) made put_told few p.puts.put p.puts.read_back in
     let first = subst (λ o. Reads Description o p.street) (sym kept) p.description in
-    let found = finds_of reader between now (Some (Hold artery plan)) (p.street, (made, tt)) d (subst (λ o. IsSome o) (sym kept) told, (put_told, tt)) (first, (reads, tt)) m k in
-    good_done rules p.street made d found.0 p.puts.good found.2
+    let found = finds_of reader between now (ask.hold artery plan) (p.street, (made, tt)) d (subst (λ o. IsSome o) (sym kept) told, (put_told, tt)) (first, (reads, tt)) m k in
+    good_done rules p.street made d found.0 p.puts.good found.2.finds

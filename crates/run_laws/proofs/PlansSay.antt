@@ -16,14 +16,15 @@ use Rattle.certificate_checker.specs.Laws.{RefusedIsNotAccepted}
 use Rattle.cycle_sweep.specs.declared.row.SweepRow.{SweepRow}
 use Rattle.cycle_sweep.specs.Rows.{IsRow}
 use Rattle.cycle_sweep.specs.Says.{RowsSay}
-use Rattle.run_inputs.specs.Command.{Bands, Round, RoundFrom, Half, TimingOf, Draw, Sweep}
+use Rattle.run_laws.specs.Asked as ask
 use Rattle.run_inputs.specs.Puts.{NamedBytes, put_of}
 use Rattle.maxband_run.specs.Outside.{Outside, IsPut, IsDone}
 use Rattle.run_commands.specs.Half.{HasNoHalfPlan, IsHalfPlan}
 use Rattle.description_reader.specs.Typed.{Typed}
 use Rattle.run_commands.specs.Typed.{TypedFinds}
 use Rattle.run_commands.specs.Draw.{DrawFinds}
-use Rattle.run_inputs.specs.Reading.{Reads, Description, Timed, TypedPlan}
+use Rattle.run_inputs.specs.Reading.{Reads}
+use Rattle.run_inputs.specs.declared.reader.Reader.TheVariants.{Description, Timed, TypedPlan}
 use Rattle.maxband_run.specs.Run.{Ends}
 use Rattle.run_commands.specs.Sought.{whole_bands}
 use Rattle.run_commands.specs.Checked.{whole_checked}
@@ -34,16 +35,16 @@ use Rattle.run_laws.specs.PlanLaws.{SaysFailing, SaysUntimed, DrawSays, SaysCycl
 use Rattle.run_inputs.specs.Status.{number_of, IsReached}
 use Rattle.run_inputs.specs.declared.cause.Cause.{Cause}
 use Rattle.run_inputs.specs.declared.cause.Cause.TheVariants as cause
-use Rattle.run_laws.proofs.Found.{Found, found, found_done, found_four, ten_is, eleven_is}
-use Rattle.run_laws.proofs.Kept.{found_keeps, four_refuses}
+use Rattle.run_laws.proofs.Found.{Found, found_done, found_four, found_ten, found_eleven}
+use Rattle.run_laws.proofs.Kept.{found_keeps, four_refuses, ten_refuses}
 use Rattle.run_laws.proofs.Once.{unplanned_accepted}
 use Rattle.run_laws.proofs.PutRead.{is_put, reached_ends}
 
 -- ---- bands
 module _ (before now : Outside) (artery timing : List ℕ) where
-  says_widest : Found before now (Some (Bands artery timing)) cause.Done → SaysWidest before now artery timing
+  says_widest : Found before now (ask.bands artery timing) cause.Done → SaysWidest before now artery timing
   says_widest f =
-      let k = f.answer.finds in
+      let k = f.answer.finds.finds in
       record {
         street = f.answer.values.0;
         plan = f.answer.values.1.0;
@@ -57,38 +58,38 @@ module _ (before now : Outside) (artery timing : List ℕ) where
         told = subst (λ (l : List ℕ). Appends before.taken now.taken l) k.lines_are f.done.written;
       }
 
-  says_no_base : (f : Failing) → Found before now (Some (Bands artery timing)) (cause.Fails f) → SaysNoBase before now artery timing (cause.Fails f)
+  says_no_base : (f : Failing) → Found before now (ask.bands artery timing) (cause.Fails f) → SaysNoBase before now artery timing (cause.Fails f)
   says_no_base f k = record {
     street = k.answer.values.0;
     plan = k.answer.values.1.0;
     failing = f;
     description = k.answer.read.0;
     text = k.answer.read.1.0;
-    fails = k.answer.finds.first.fails;
-    not_base = k.answer.finds.not_base;
+    fails = k.answer.finds.finds.first.fails;
+    not_base = k.answer.finds.finds.not_base;
     cause_is = refl;
-    kept = found_keeps before now (Some (Bands artery timing)) (cause.Fails f) (λ v. v) k;
+    kept = found_keeps before now (ask.bands artery timing) (cause.Fails f) (λ v. v) k k.answer.finds.answer;
   }
 
-  bands_four : (c : Cause) → number_of c ≡ 4 → Found before now (Some (Bands artery timing)) c → SaysNoBase before now artery timing c
+  bands_four : (c : Cause) → number_of c ≡ 4 → Found before now (ask.bands artery timing) c → SaysNoBase before now artery timing c
   bands_four (cause.Fails f) e k = says_no_base f k
-  bands_four (cause.Rejected r) e k = absurd k.answer.finds
-  bands_four (cause.LinkRejected r) e k = absurd k.answer.finds
+  bands_four (cause.Rejected r) e k = absurd k.answer.finds.finds
+  bands_four (cause.LinkRejected r) e k = absurd k.answer.finds.finds
   bands_four c e k = absurd cc
 
 pub bands_say : BandsSay
 bands_say before now artery timing c h = (
-  (λ e. says_widest before now artery timing (found_done before now (Some (Bands artery timing)) c e h)),
-  (λ e. bands_four before now artery timing c e (found_four before now (Some (Bands artery timing)) c e h)),
+  (λ e. says_widest before now artery timing (found_done before now (ask.bands artery timing) c e h)),
+  (λ e. bands_four before now artery timing c e (found_four before now (ask.bands artery timing) c e h)),
 )
 
 -- ---- half
 module _ (before now : Outside) (artery timing new : List ℕ) where
-  says_half : Found before now (Some (Half artery timing new)) cause.Done → SaysHalf before now artery timing new
+  says_half : Found before now (ask.half artery timing new) cause.Done → SaysHalf before now artery timing new
   says_half f =
       let a = f.answer.values.0 in
       let t = f.answer.values.1.0 in
-      let k = f.answer.finds in
+      let k = f.answer.finds.finds in
       let none : HasNoHalfPlan a t f.lines f.answer.bytes → SaysNoHalf before now a t = λ h. record {
         none = h.none;
         kept = subst (λ p. IsPut p before.holds now.holds) (f.answer.put_is ∙ ap (put_of (Some new)) h.no_put) f.done.files;
@@ -110,57 +111,57 @@ module _ (before now : Outside) (artery timing new : List ℕ) where
         found = elim k.found [ inl h ↦ inl (none h) | inr h ↦ inr (some h.0 h.1 h.2) ];
       }
 
-  half_no_base : (f : Failing) → Found before now (Some (Half artery timing new)) (cause.Fails f) → SaysNoBase before now artery timing (cause.Fails f)
+  half_no_base : (f : Failing) → Found before now (ask.half artery timing new) (cause.Fails f) → SaysNoBase before now artery timing (cause.Fails f)
   half_no_base f k = record {
     street = k.answer.values.0;
     plan = k.answer.values.1.0;
     failing = f;
     description = k.answer.read.0;
     text = k.answer.read.1.0;
-    fails = k.answer.finds.0.first.fails;
-    not_base = k.answer.finds.0.not_base;
+    fails = k.answer.finds.finds.0.first.fails;
+    not_base = k.answer.finds.finds.0.not_base;
     cause_is = refl;
-    kept = found_keeps before now (Some (Half artery timing new)) (cause.Fails f) (λ v. v) k;
+    kept = found_keeps before now (ask.half artery timing new) (cause.Fails f) (λ v. v) k k.answer.finds.answer;
   }
 
-  half_four : (c : Cause) → number_of c ≡ 4 → Found before now (Some (Half artery timing new)) c → SaysNoBase before now artery timing c
+  half_four : (c : Cause) → number_of c ≡ 4 → Found before now (ask.half artery timing new) c → SaysNoBase before now artery timing c
   half_four (cause.Fails f) e k = half_no_base f k
-  half_four (cause.Rejected r) e k = absurd k.answer.finds
-  half_four (cause.LinkRejected r) e k = absurd k.answer.finds
+  half_four (cause.Rejected r) e k = absurd k.answer.finds.finds
+  half_four (cause.LinkRejected r) e k = absurd k.answer.finds.finds
   half_four c e k = absurd cc
 
-  says_unmatched : OneEnd → (reason : HalfEnd) → Found before now (Some (Half artery timing new)) (cause.Unmatched reason) → SaysUnmatched before now artery timing (cause.Unmatched reason)
+  says_unmatched : OneEnd → (reason : HalfEnd) → Found before now (ask.half artery timing new) (cause.Unmatched reason) → SaysUnmatched before now artery timing (cause.Unmatched reason)
   says_unmatched ends reason k = record {
     street = k.answer.values.0;
     plan = k.answer.values.1.0;
     reason = reason;
     description = k.answer.read.0;
     text = k.answer.read.1.0;
-    base = k.answer.finds.base;
-    first = k.answer.finds.first;
-    not_ready = ends.not_ready k.answer.values.0 k.answer.values.1.0 reason k.answer.finds.first;
+    base = k.answer.finds.finds.base;
+    first = k.answer.finds.finds.first;
+    not_ready = ends.not_ready k.answer.values.0 k.answer.values.1.0 reason k.answer.finds.finds.first;
     cause_is = refl;
-    kept = found_keeps before now (Some (Half artery timing new)) (cause.Unmatched reason) (λ v. v) k;
+    kept = found_keeps before now (ask.half artery timing new) (cause.Unmatched reason) (λ v. v) k k.answer.finds.answer;
   }
 
-  half_eleven : OneEnd → (c : Cause) (reason : HalfEnd) → c ≡ cause.Unmatched reason → Ends before now (Some (Half artery timing new)) c → SaysUnmatched before now artery timing c
-  half_eleven ends c reason e h = subst (λ (d : Cause). SaysUnmatched before now artery timing d) (sym e)
-      (says_unmatched ends reason (found before now (Some (Half artery timing new)) (cause.Unmatched reason) tt (λ s. s)
-      (subst (λ (d : Cause). Ends before now (Some (Half artery timing new)) d) e h)))
+  half_eleven : OneEnd → (c : Cause) → number_of c ≡ 11 → Found before now (ask.half artery timing new) c → SaysUnmatched before now artery timing c
+  half_eleven ends (cause.Unmatched reason) e k = says_unmatched ends reason k
+  half_eleven ends (cause.TooFine ticks) e k = absurd k.answer.finds.finds
+  half_eleven ends c e k = absurd cc
 
 pub half_says : OneEnd → HalfSays
 half_says ends before now artery timing new c h = (
-  (λ e. says_half before now artery timing new (found_done before now (Some (Half artery timing new)) c e h)),
-  (λ e. half_four before now artery timing new c e (found_four before now (Some (Half artery timing new)) c e h)),
-  (λ e. let r = eleven_is c e in half_eleven before now artery timing new ends c r.0 r.1 h),
+  (λ e. says_half before now artery timing new (found_done before now (ask.half artery timing new) c e h)),
+  (λ e. half_four before now artery timing new c e (found_four before now (ask.half artery timing new) c e h)),
+  (λ e. half_eleven before now artery timing new ends c e (found_eleven before now (ask.half artery timing new) c e h)),
 )
 
 -- ---- round
 module _ (before now : Outside) (artery certificate plan : List ℕ) where
-  pub round_four : RefusedIsNotAccepted → (c : Cause) → number_of c ≡ 4 → Found before now (Some (Round artery certificate plan)) c
+  pub round_four : RefusedIsNotAccepted → (c : Cause) → number_of c ≡ 4 → Found before now (ask.round artery certificate plan) c
       → SaysRejected whole_bands whole_checked before now artery certificate c
   round_four apart (cause.Rejected r) e k =
-      let h = k.answer.finds.0 in
+      let h = k.answer.finds.finds.0 in
       record {
         street = k.answer.values.0;
         warrant = k.answer.values.1.0;
@@ -170,37 +171,36 @@ module _ (before now : Outside) (artery certificate plan : List ℕ) where
         first = h.first;
         not_accepted = apart k.answer.values.0 k.answer.values.1.0 h.reject h.first h.kept;
         cause_is = h.cause_is;
-        kept = found_keeps before now (Some (Round artery certificate plan)) (cause.Rejected r) (λ v. v) k;
+        kept = found_keeps before now (ask.round artery certificate plan) (cause.Rejected r) (λ v. v) k k.answer.finds.answer;
       }
-  round_four apart (cause.Fails f) e k = absurd k.answer.finds
-  round_four apart (cause.LinkRejected r) e k = absurd k.answer.finds
+  round_four apart (cause.Fails f) e k = absurd k.answer.finds.finds
+  round_four apart (cause.LinkRejected r) e k = absurd k.answer.finds.finds
   round_four apart c e k = absurd cc
 
-  says_unplanned : (reason : PlanEnd) → Found before now (Some (Round artery certificate plan)) (cause.Unplanned reason) → SaysUnplanned before now artery certificate (cause.Unplanned reason)
+  says_unplanned : (reason : PlanEnd) → Found before now (ask.round artery certificate plan) (cause.Unplanned reason) → SaysUnplanned before now artery certificate (cause.Unplanned reason)
   says_unplanned reason k = record {
     street = k.answer.values.0;
     warrant = k.answer.values.1.0;
     reason = reason;
     description = k.answer.read.0;
     text = k.answer.read.1.0;
-    accepted = unplanned_accepted k.answer.values.0 k.answer.values.1.0 k.answer.values.1.0.timing reason k.answer.finds.first;
-    first = k.answer.finds.first;
+    accepted = unplanned_accepted k.answer.values.0 k.answer.values.1.0 k.answer.values.1.0.timing reason k.answer.finds.finds.first;
+    first = k.answer.finds.finds.first;
     cause_is = refl;
-    kept = found_keeps before now (Some (Round artery certificate plan)) (cause.Unplanned reason) (λ v. v) k;
+    kept = found_keeps before now (ask.round artery certificate plan) (cause.Unplanned reason) (λ v. v) k k.answer.finds.answer;
   }
 
-  pub round_ten : (c : Cause) → number_of c ≡ 10 → Ends before now (Some (Round artery certificate plan)) c → SaysUnplanned before now artery certificate c
-  round_ten c n h = let r = ten_is c n in
-      subst (λ (d : Cause). SaysUnplanned before now artery certificate d) (sym r.1)
-      (says_unplanned r.0 (found before now (Some (Round artery certificate plan)) (cause.Unplanned r.0) tt (λ s. s)
-      (subst (λ (d : Cause). Ends before now (Some (Round artery certificate plan)) d) r.1 h)))
+  pub round_ten : (c : Cause) → number_of c ≡ 10 → Found before now (ask.round artery certificate plan) c → SaysUnplanned before now artery certificate c
+  round_ten (cause.Unplanned reason) e k = says_unplanned reason k
+  round_ten cause.Untimed e k = absurd k.answer.finds.finds
+  round_ten c e k = absurd cc
 
 -- ---- round-from
 module _ (before now : Outside) (artery certificate other plan : List ℕ) where
-  pub from_four : RefusedIsNotAccepted → FailsRulesOut → (c : Cause) → number_of c ≡ 4 → Found before now (Some (RoundFrom artery certificate other plan)) c
+  pub from_four : RefusedIsNotAccepted → FailsRulesOut → (c : Cause) → number_of c ≡ 4 → Found before now (ask.round_from artery certificate other plan) c
       → SaysRejected whole_bands whole_checked before now artery certificate c ⊎ SaysFailing before now artery other c
   from_four apart rules (cause.Rejected r) e k =
-      let h = k.answer.finds.0 in
+      let h = k.answer.finds.finds.0 in
       inl (record {
         street = k.answer.values.0;
         warrant = k.answer.values.1.0;
@@ -210,10 +210,10 @@ module _ (before now : Outside) (artery certificate other plan : List ℕ) where
         first = h.first;
         not_accepted = apart k.answer.values.0 k.answer.values.1.0 h.reject h.first h.kept;
         cause_is = h.cause_is;
-        kept = found_keeps before now (Some (RoundFrom artery certificate other plan)) (cause.Rejected r) (λ v. v) k;
+        kept = found_keeps before now (ask.round_from artery certificate other plan) (cause.Rejected r) (λ v. v) k k.answer.finds.answer;
       })
   from_four apart rules (cause.Fails f) e k =
-      let h = k.answer.finds in
+      let h = k.answer.finds.finds in
       inr (record {
         street = k.answer.values.0;
         timing = h.timing;
@@ -223,12 +223,12 @@ module _ (before now : Outside) (artery certificate other plan : List ℕ) where
         fails = h.first.fails;
         not_good = rules k.answer.values.0 h.timing f h.first.fails;
         cause_is = refl;
-        kept = found_keeps before now (Some (RoundFrom artery certificate other plan)) (cause.Fails f) (λ v. v) k;
+        kept = found_keeps before now (ask.round_from artery certificate other plan) (cause.Fails f) (λ v. v) k k.answer.finds.answer;
       })
-  from_four apart rules (cause.LinkRejected r) e k = absurd k.answer.finds
+  from_four apart rules (cause.LinkRejected r) e k = absurd k.answer.finds.finds
   from_four apart rules c e k = absurd cc
 
-  says_from_unplanned : (reason : PlanEnd) → Found before now (Some (RoundFrom artery certificate other plan)) (cause.Unplanned reason)
+  says_from_unplanned : (reason : PlanEnd) → Found before now (ask.round_from artery certificate other plan) (cause.Unplanned reason)
       → SaysUnplannedFrom before now artery certificate other (cause.Unplanned reason)
   says_from_unplanned reason k = record {
     street = k.answer.values.0;
@@ -238,17 +238,16 @@ module _ (before now : Outside) (artery certificate other plan : List ℕ) where
     description = k.answer.read.0;
     text = k.answer.read.1.0;
     given_is = k.answer.read.1.1.0;
-    accepted = unplanned_accepted k.answer.values.0 k.answer.values.1.0 k.answer.values.1.1.0 reason k.answer.finds.first;
-    first = k.answer.finds.first;
+    accepted = unplanned_accepted k.answer.values.0 k.answer.values.1.0 k.answer.values.1.1.0 reason k.answer.finds.finds.first;
+    first = k.answer.finds.finds.first;
     cause_is = refl;
-    kept = found_keeps before now (Some (RoundFrom artery certificate other plan)) (cause.Unplanned reason) (λ v. v) k;
+    kept = found_keeps before now (ask.round_from artery certificate other plan) (cause.Unplanned reason) (λ v. v) k k.answer.finds.answer;
   }
 
-  pub from_ten : (c : Cause) → number_of c ≡ 10 → Ends before now (Some (RoundFrom artery certificate other plan)) c → SaysUnplannedFrom before now artery certificate other c
-  from_ten c n h = let r = ten_is c n in
-      subst (λ (d : Cause). SaysUnplannedFrom before now artery certificate other d) (sym r.1)
-      (says_from_unplanned r.0 (found before now (Some (RoundFrom artery certificate other plan)) (cause.Unplanned r.0) tt (λ s. s)
-      (subst (λ (d : Cause). Ends before now (Some (RoundFrom artery certificate other plan)) d) r.1 h)))
+  pub from_ten : (c : Cause) → number_of c ≡ 10 → Found before now (ask.round_from artery certificate other plan) c → SaysUnplannedFrom before now artery certificate other c
+  from_ten (cause.Unplanned reason) e k = says_from_unplanned reason k
+  from_ten cause.Untimed e k = absurd k.answer.finds.finds
+  from_ten c e k = absurd cc
 
 -- ---- timing
 three_reached : (c : Cause) → number_of c ≡ 3 → IsReached c
@@ -268,6 +267,12 @@ eleven_three e = omega (arith, e)
 none_three : ◌≡◌ {A = ℕ} 0 3 → ⊥
 none_three e = omega (arith, e)
 
+none_eleven : ◌≡◌ {A = ℕ} 0 11 → ⊥
+none_eleven e = omega (arith, e)
+
+three_eleven : ◌≡◌ {A = ℕ} 3 11 → ⊥
+three_eleven e = omega (arith, e)
+
 none_four : ◌≡◌ {A = ℕ} 0 4 → ⊥
 none_four e = omega (arith, e)
 
@@ -276,7 +281,7 @@ module _ (before now : Outside) (artery plan timing : List ℕ) where
   kept_none lines put bytes e n h = subst (λ (p : Option NamedBytes). IsPut p before.holds now.holds) (e ∙ ap (put_of (Some timing)) n) h.files
 
   module _ (a : Street) (p : Typed) (d : Reads Description (before.holds artery) a) (r : Reads TypedPlan (before.holds plan) p) where
-    typed_put : (f : Found before now (Some (TimingOf artery plan timing)) cause.Done) → TypedFinds a p cause.Done f.lines f.answer.bytes → PutsTyped before now artery plan timing
+    typed_put : (f : Found before now (ask.timing artery plan timing) cause.Done) → TypedFinds a p cause.Done f.lines f.answer.bytes → PutsTyped before now artery plan timing
     typed_put f (inl h) =
         let k = h.finds.1 in
         record {
@@ -307,34 +312,33 @@ module _ (before now : Outside) (artery plan timing : List ℕ) where
       none_broken c e (inr (inl h)) = three_four (sym (ap number_of h.cause_is) ∙ e)
       none_broken c e (inr (inr h)) = eleven_four (sym (ap number_of h.cause_is) ∙ e)
 
-      too_fine_of : (reason : HalfEnd) → TypedFinds a p (cause.Unmatched reason) lines bytes → SaysTooFine before now artery plan (cause.Unmatched reason)
-      too_fine_of reason (inl h) = let e = h.finds.0 in absurd cc
-      too_fine_of reason (inr (inl h)) = let e = h.cause_is in absurd cc
-      too_fine_of reason (inr (inr h)) =
+      too_fine_of : (c : Cause) → number_of c ≡ 11 → TypedFinds a p c lines bytes → SaysTooFine before now artery plan c
+      too_fine_of c e (inl h) = absurd (none_eleven (sym (ap number_of h.finds.0) ∙ e))
+      too_fine_of c e (inr (inl h)) = absurd (three_eleven (sym (ap number_of h.cause_is) ∙ e))
+      too_fine_of c e (inr (inr h)) =
           record { street = a; typed = p; ticks = h.ticks; description = d; text = r; first = h.first; cause_is = h.cause_is; kept = kept_none lines put bytes put_is h.no_put done }
 
-  timing_three : (c : Cause) → number_of c ≡ 3 → Ends before now (Some (TimingOf artery plan timing)) c → StopsTyped before now artery plan timing c ⊎ SaysMiscounted before now artery plan c
+  timing_three : (c : Cause) → number_of c ≡ 3 → Ends before now (ask.timing artery plan timing) c → StopsTyped before now artery plan timing c ⊎ SaysMiscounted before now artery plan c
   timing_three c n h =
-      let e = reached_ends before now (Some (TimingOf artery plan timing)) c (three_reached c n) h in
+      let e = reached_ends before now (ask.timing artery plan timing) c (three_reached c n) h in
       elim e.2 [
         | inl s ↦ inl (record { lines = e.0; stops = s.stops; kept = subst (λ (p : Option NamedBytes). IsPut p before.holds now.holds) s.no_put e.3.files })
-        | inr k ↦ inr (miscounted k.values.0 k.values.1.0 k.read.0 k.read.1.0 e.0 e.1 k.bytes k.put_is e.3 c n k.finds)
+        | inr k ↦ inr (miscounted k.values.0 k.values.1.0 k.read.0 k.read.1.0 e.0 e.1 k.bytes k.put_is e.3 c n k.finds.finds)
       ]
 
-  timing_eleven : (c : Cause) (reason : HalfEnd) → c ≡ cause.Unmatched reason → Ends before now (Some (TimingOf artery plan timing)) c → SaysTooFine before now artery plan c
-  timing_eleven c reason e h =
-      let f = found before now (Some (TimingOf artery plan timing)) (cause.Unmatched reason) tt (λ s. s) (subst (λ (d : Cause). Ends before now (Some (TimingOf artery plan timing)) d) e h) in
-      subst (λ (d : Cause). SaysTooFine before now artery plan d) (sym e)
-      (too_fine_of f.answer.values.0 f.answer.values.1.0 f.answer.read.0 f.answer.read.1.0 f.lines f.put f.answer.bytes f.answer.put_is f.done reason f.answer.finds)
+  timing_eleven : (c : Cause) → number_of c ≡ 11 → Ends before now (ask.timing artery plan timing) c → SaysTooFine before now artery plan c
+  timing_eleven c e h =
+      let f = found_eleven before now (ask.timing artery plan timing) c e h in
+      too_fine_of f.answer.values.0 f.answer.values.1.0 f.answer.read.0 f.answer.read.1.0 f.lines f.put f.answer.bytes f.answer.put_is f.done c e f.answer.finds.finds
 
 pub timing_says : TimingSays
 timing_says before now artery plan timing c h = (
-  (λ e. let f = found_done before now (Some (TimingOf artery plan timing)) c e h in
-      typed_put before now artery plan timing f.answer.values.0 f.answer.values.1.0 f.answer.read.0 f.answer.read.1.0 f f.answer.finds),
+  (λ e. let f = found_done before now (ask.timing artery plan timing) c e h in
+      typed_put before now artery plan timing f.answer.values.0 f.answer.values.1.0 f.answer.read.0 f.answer.read.1.0 f f.answer.finds.finds),
   (λ e. timing_three before now artery plan timing c e h),
-  (λ e. let f = found_four before now (Some (TimingOf artery plan timing)) c e h in
-      none_broken before now artery plan timing f.answer.values.0 f.answer.values.1.0 f.answer.read.0 f.answer.read.1.0 f.lines f.put f.answer.bytes f.answer.put_is f.done c e f.answer.finds),
-  (λ e. let r = eleven_is c e in timing_eleven before now artery plan timing c r.0 r.1 h),
+  (λ e. let f = found_four before now (ask.timing artery plan timing) c e h in
+      none_broken before now artery plan timing f.answer.values.0 f.answer.values.1.0 f.answer.read.0 f.answer.read.1.0 f.lines f.put f.answer.bytes f.answer.put_is f.done c e f.answer.finds.finds),
+  (λ e. timing_eleven before now artery plan timing c e h),
 )
 
 -- ---- draw
@@ -343,7 +347,7 @@ ten_apart e = omega (arith, e)
 
 module _ (before now : Outside) (artery timed picture : List ℕ) (title : Option (List ℕ)) where
   -- what is found of the timing, where the file has one
-  picture_of : (a : Street) (o : Option TimingRecord) (f : Found before now (Some (Draw artery timed picture title)) cause.Done)
+  picture_of : (a : Street) (o : Option TimingRecord) (f : Found before now (ask.draw artery timed picture title) cause.Done)
       → Reads Description (before.holds artery) a → Reads Timed (before.holds timed) o
       → DrawFinds a o title cause.Done f.lines f.answer.bytes → PutsPicture before now artery timed picture title
   picture_of a None f d r h = let e = h.0 in absurd cc
@@ -374,28 +378,23 @@ module _ (before now : Outside) (artery timed picture : List ℕ) (title : Optio
   unshaped_of a (Some t) cause.Done l bytes kept d r e h = absurd cc
   unshaped_of a (Some t) c l bytes kept d r e h = absurd h
 
-  untimed_of : (a : Street) (o : Option TimingRecord) (reason : PlanEnd) (l : List ℕ) (bytes : Option (List ℕ)) → SameFiles before.holds now.holds
-      → Reads Description (before.holds artery) a → Reads Timed (before.holds timed) o → DrawFinds a o title (cause.Unplanned reason) l bytes
-      → SaysUntimed before now artery timed (cause.Unplanned reason)
-  untimed_of a None reason l bytes kept d r h = record { street = a; description = d; text = r; cause_is = h.0; kept = kept }
-  untimed_of a (Some t) reason l bytes kept d r h = absurd h
-
-  draw_ten : (c : Cause) (reason : PlanEnd) → c ≡ cause.Unplanned reason → Ends before now (Some (Draw artery timed picture title)) c → SaysUntimed before now artery timed c
-  draw_ten c reason e h =
-      let f = found before now (Some (Draw artery timed picture title)) (cause.Unplanned reason) tt (λ s. s)
-      (subst (λ (d : Cause). Ends before now (Some (Draw artery timed picture title)) d) e h) in
-      subst (λ (d : Cause). SaysUntimed before now artery timed d) (sym e)
-      (untimed_of f.answer.values.0 f.answer.values.1.0 reason f.lines f.answer.bytes
-      (found_keeps before now (Some (Draw artery timed picture title)) (cause.Unplanned reason) (λ v. v) f) f.answer.read.0 f.answer.read.1.0 f.answer.finds)
+  untimed_of : (a : Street) (o : Option TimingRecord) (c : Cause) (l : List ℕ) (bytes : Option (List ℕ)) → SameFiles before.holds now.holds
+      → Reads Description (before.holds artery) a → Reads Timed (before.holds timed) o → number_of c ≡ 10 → DrawFinds a o title c l bytes → SaysUntimed before now artery timed c
+  untimed_of a None c l bytes kept d r e h = record { street = a; description = d; text = r; cause_is = h.0; kept = kept }
+  untimed_of a (Some t) cause.Done l bytes kept d r e h = absurd cc
+  untimed_of a (Some t) (cause.Fails f) l bytes kept d r e h = absurd cc
+  untimed_of a (Some t) c l bytes kept d r e h = absurd h
 
 pub draw_says : DrawSays
 draw_says before now artery timed picture title c h = (
-  (λ e. let f = found_done before now (Some (Draw artery timed picture title)) c e h in
-      picture_of before now artery timed picture title f.answer.values.0 f.answer.values.1.0 f f.answer.read.0 f.answer.read.1.0 f.answer.finds),
-  (λ e. let f = found_four before now (Some (Draw artery timed picture title)) c e h in
+  (λ e. let f = found_done before now (ask.draw artery timed picture title) c e h in
+      picture_of before now artery timed picture title f.answer.values.0 f.answer.values.1.0 f f.answer.read.0 f.answer.read.1.0 f.answer.finds.finds),
+  (λ e. let f = found_four before now (ask.draw artery timed picture title) c e h in
       unshaped_of before now artery timed picture title f.answer.values.0 f.answer.values.1.0 c f.lines f.answer.bytes
-      (found_keeps before now (Some (Draw artery timed picture title)) c (four_refuses c e) f) f.answer.read.0 f.answer.read.1.0 e f.answer.finds),
-  (λ e. let r = ten_is c e in draw_ten before now artery timed picture title c r.0 r.1 h),
+      (found_keeps before now (ask.draw artery timed picture title) c (four_refuses c e) f f.answer.finds.answer) f.answer.read.0 f.answer.read.1.0 e f.answer.finds.finds),
+  (λ e. let f = found_ten before now (ask.draw artery timed picture title) c e h in
+      untimed_of before now artery timed picture title f.answer.values.0 f.answer.values.1.0 c f.lines f.answer.bytes
+      (found_keeps before now (ask.draw artery timed picture title) c (ten_refuses c e) f f.answer.finds.answer) f.answer.read.0 f.answer.read.1.0 e f.answer.finds.finds),
 )
 
 -- ---- sweep
@@ -406,10 +405,10 @@ each_row say a limit (cycle ∷ cycles) [] h = absurd h
 each_row say a limit (cycle ∷ cycles) (row ∷ rows) h = (record { found = h.0; says = say a limit cycle row h.0 }, each_row say a limit cycles rows h.1)
 
 module _ (say : RowsSay) (before now : Outside) (artery table : List ℕ) (limit : Option ℕ) (words : List (List ℕ)) where
-  puts_table : Found before now (Some (Sweep artery table limit words)) cause.Done → PutsTable before now artery table limit words
+  puts_table : Found before now (ask.sweep artery table limit words) cause.Done → PutsTable before now artery table limit words
   puts_table f =
       let a = f.answer.values.0 in
-      let k = f.answer.finds in
+      let k = f.answer.finds.finds in
       let held = is_put before now table k.0 f.lines f.put f.answer.bytes f.answer.put_is k.1 f.done in
       record {
         street = a;
@@ -424,4 +423,4 @@ module _ (say : RowsSay) (before now : Outside) (artery table : List ℕ) (limit
 
 pub sweep_says : RowsSay → SweepSays
 sweep_says say before now artery table limit words c h e =
-    puts_table say before now artery table limit words (found_done before now (Some (Sweep artery table limit words)) c e h)
+    puts_table say before now artery table limit words (found_done before now (ask.sweep artery table limit words) c e h)

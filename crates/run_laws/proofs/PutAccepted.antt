@@ -7,15 +7,17 @@ use Rattle.certificate_checker.specs.Laws.{RefusedIsNotAccepted}
 use Rattle.link_proof.specs.LinkLaws.{LinkRefusedIsNotAccepted}
 use Rattle.branch_tree.specs.Certified.{warrant_of}
 use Rattle.multi_band.specs.LinkCertified.{link_warrant_of}
-use Rattle.run_inputs.specs.Command.{Request, Check, CheckLinks, Solve, Links}
+use Rattle.run_laws.specs.Asked as ask
 use Rattle.run_inputs.specs.Puts.{put_of}
 use Rattle.maxband_run.specs.Outside.{Outside, IsPut}
-use Rattle.run_inputs.specs.Reading.{Value, IsReadAs, Reads, Description}
+use Rattle.run_inputs.specs.Reading.{Value, IsReadAs, Reads}
+use Rattle.run_inputs.specs.declared.reader.Reader.TheVariants.{Description}
 use Rattle.run_commands.specs.Sought.{Sought, whole_bands, bands_of_links}
 use Rattle.run_commands.specs.Checked.{Checked, whole_checked, links_checked}
 use Rattle.run_commands.specs.Check.{Accepts, Checks}
-use Rattle.maxband_run.specs.Run.{Ends}
-use Rattle.run_laws.specs.Laws.{IsVerdict, Solves, whole_solves, links_solve, SearchIsAccepted, PutIsAccepted, PutLinksAreAccepted}
+use Rattle.run_commands.specs.Ends.{IsVerdict}
+use Rattle.maxband_run.specs.Run.{Question, Ends}
+use Rattle.run_laws.specs.Laws.{Solves, whole_solves, links_solve, SearchIsAccepted, PutIsAccepted, PutLinksAreAccepted}
 use Rattle.run_inputs.specs.Status.{IsReached}
 use Rattle.run_inputs.specs.declared.cause.Cause.{Cause}
 use Rattle.run_laws.proofs.Complete.{Completes}
@@ -40,16 +42,16 @@ record Solved (k : Sought) (s : Checked k) (solves : Solves k) (before between :
   pub read_back : IsReadAs k.reader text warrant
   pub files : IsPut (put_of (Some certificate) (Some text)) before.holds between.holds
 
-module _ (k : Sought) (s : Checked k) (solves : Solves k) (asks : List ℕ → List ℕ → Option ℕ → Request) (checks : List ℕ → List ℕ → Request) (apart : RefusedApart k s)
-    (put : (before between : Outside) (artery certificate : List ℕ) (limit : Option ℕ) (c : Cause) → IsVerdict c → Completes before between (Some (asks artery certificate limit)) c
+module _ (k : Sought) (s : Checked k) (solves : Solves k) (asks : List ℕ → List ℕ → Option ℕ → Question) (checks : List ℕ → List ℕ → Question) (apart : RefusedApart k s)
+    (put : (before between : Outside) (artery certificate : List ℕ) (limit : Option ℕ) (c : Cause) → IsVerdict c → Completes before between (asks artery certificate limit) c
     → Solved k s solves before between artery certificate limit c)
     (finds : (between now : Outside) (artery certificate : List ℕ) (a : Street) (w : Value k.reader) (d : Cause) → IsSome (between.holds artery) → IsSome (between.holds certificate)
-    → Reads Description (between.holds artery) a → Reads k.reader (between.holds certificate) w → IsReached d → Ends between now (Some (checks artery certificate)) d
+    → Reads Description (between.holds artery) a → Reads k.reader (between.holds certificate) w → IsReached d → Ends between now (checks artery certificate) d
     → (lines : List ℕ) × Checks k s a w d lines × Appends between.taken now.taken lines)
   where
     search_accepted : SearchIsAccepted k s solves asks checks
     search_accepted before between now artery certificate limit c d two told put_told few v h m o =
-        let e = reached_ends before between (Some (asks artery certificate limit)) c (verdict_reached c v) h in
+        let e = reached_ends before between (asks artery certificate limit) c (verdict_reached c v) h in
         let f = put before between artery certificate limit c v e in
         let kept : between.holds artery ≡ before.holds artery = f.files.1 artery two in
         let reads = reads_put k.reader (between.holds certificate) f.text f.warrant put_told few f.files.0 f.read_back in
@@ -71,43 +73,43 @@ module _ (k : Sought) (s : Checked k) (solves : Solves k) (asks : List ℕ → L
         }
 
 -- ---- solve
-solve_put : (before between : Outside) (artery certificate : List ℕ) (limit : Option ℕ) (c : Cause) → IsVerdict c → Completes before between (Some (Solve artery certificate limit)) c
+solve_put : (before between : Outside) (artery certificate : List ℕ) (limit : Option ℕ) (c : Cause) → IsVerdict c → Completes before between (ask.solve artery certificate limit) c
     → Solved whole_bands whole_checked whole_solves before between artery certificate limit c
 solve_put before between artery certificate limit c v e =
-    let f = verdict_found before.holds before.reads between.reads (Some (Solve artery certificate limit)) c e.0 e.1 v e.2 in
+    let f = verdict_found before.holds before.reads between.reads (ask.solve artery certificate limit) c e.0 e.1 v e.2 in
     record {
       street = f.values.0;
       lines = e.0;
-      text = f.finds.0;
-      warrant = warrant_of f.values.0 f.finds.2.found;
+      text = f.finds.finds.0;
+      warrant = warrant_of f.values.0 f.finds.finds.2.found;
       description = f.read.0;
-      solved = (f.finds.2, refl);
-      accepted = f.finds.2.searched.accepted;
-      read_back = f.finds.2.certificate_is.read_back;
-      files = is_put before between certificate f.finds.0 e.0 e.1 f.bytes f.put_is f.finds.1 e.3;
+      solved = (f.finds.finds.2, refl);
+      accepted = f.finds.finds.2.searched.accepted;
+      read_back = f.finds.finds.2.certificate_is.read_back;
+      files = is_put before between certificate f.finds.finds.0 e.0 e.1 f.bytes f.put_is f.finds.finds.1 e.3;
     }
 
 pub put_accepted : OneReading → RefusedIsNotAccepted → PutIsAccepted
-put_accepted reader apart = search_accepted whole_bands whole_checked whole_solves Solve Check apart solve_put
-    (λ between now artery certificate a w d t u r q m o. let f = finds_of reader between now (Some (Check artery certificate)) (a, (w, tt)) d (t, (u, tt)) (r, (q, tt)) m o in (f.0, f.2, f.3))
+put_accepted reader apart = search_accepted whole_bands whole_checked whole_solves ask.solve ask.check apart solve_put
+    (λ between now artery certificate a w d t u r q m o. let f = finds_of reader between now (ask.check artery certificate) (a, (w, tt)) d (t, (u, tt)) (r, (q, tt)) m o in (f.0, f.2.finds, f.3))
 
 -- ---- links
-links_put : (before between : Outside) (artery certificate : List ℕ) (limit : Option ℕ) (c : Cause) → IsVerdict c → Completes before between (Some (Links artery certificate limit)) c
+links_put : (before between : Outside) (artery certificate : List ℕ) (limit : Option ℕ) (c : Cause) → IsVerdict c → Completes before between (ask.links artery certificate limit) c
     → Solved bands_of_links links_checked links_solve before between artery certificate limit c
 links_put before between artery certificate limit c v e =
-    let f = verdict_found before.holds before.reads between.reads (Some (Links artery certificate limit)) c e.0 e.1 v e.2 in
+    let f = verdict_found before.holds before.reads between.reads (ask.links artery certificate limit) c e.0 e.1 v e.2 in
     record {
       street = f.values.0;
       lines = e.0;
-      text = f.finds.0;
-      warrant = link_warrant_of f.values.0 f.finds.2.found;
+      text = f.finds.finds.0;
+      warrant = link_warrant_of f.values.0 f.finds.finds.2.found;
       description = f.read.0;
-      solved = (f.finds.2, refl);
-      accepted = f.finds.2.searched.accepted;
-      read_back = f.finds.2.certificate_is.read_back;
-      files = is_put before between certificate f.finds.0 e.0 e.1 f.bytes f.put_is f.finds.1 e.3;
+      solved = (f.finds.finds.2, refl);
+      accepted = f.finds.finds.2.searched.accepted;
+      read_back = f.finds.finds.2.certificate_is.read_back;
+      files = is_put before between certificate f.finds.finds.0 e.0 e.1 f.bytes f.put_is f.finds.finds.1 e.3;
     }
 
 pub put_links_accepted : OneReading → LinkRefusedIsNotAccepted → PutLinksAreAccepted
-put_links_accepted reader apart = search_accepted bands_of_links links_checked links_solve Links CheckLinks apart links_put
-    (λ between now artery certificate a w d t u r q m o. let f = finds_of reader between now (Some (CheckLinks artery certificate)) (a, (w, tt)) d (t, (u, tt)) (r, (q, tt)) m o in (f.0, f.2, f.3))
+put_links_accepted reader apart = search_accepted bands_of_links links_checked links_solve ask.links ask.check_links apart links_put
+    (λ between now artery certificate a w d t u r q m o. let f = finds_of reader between now (ask.check_links artery certificate) (a, (w, tt)) d (t, (u, tt)) (r, (q, tt)) m o in (f.0, f.2.finds, f.3))

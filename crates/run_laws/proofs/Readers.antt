@@ -12,8 +12,10 @@ use Rattle.link_proof.specs.LinkWarrants.{links_of}
 use Rattle.plan_text.specs.declared.fault.BadText.{BadText}
 use Rattle.run_inputs.specs.Timed.{timed_of}
 use Rattle.run_inputs.specs.Lines.{refused_line, bad_text_line, too_long_line}
-use Rattle.run_inputs.specs.Reading.{Reader, Description, Timing, Certificate, LinkCertificate, Timed, TypedPlan, HasFault, IsBadText, Value}
-use Rattle.run_inputs.specs.Reading.{most_bytes, IsReadAs, IsRefusedFor, Input, HasBytes, Reads, IsUnread, Values, AreRead, StopsReading, AreTold}
+use Rattle.run_inputs.specs.Reading.{HasFault, IsBadText, Value}
+use Rattle.run_inputs.specs.declared.reader.Reader.{Reader}
+use Rattle.run_inputs.specs.declared.reader.Reader.TheVariants.{Description, Timing, Certificate, LinkCertificate, Timed, TypedPlan}
+use Rattle.run_inputs.specs.Reading.{input, inputs, most_bytes, IsReadAs, IsRefusedFor, Input, HasBytes, Reads, IsUnread, Values, AreRead, StopsReading, AreTold}
 use Rattle.run_inputs.specs.Status.{IsReached}
 use Rattle.run_inputs.specs.declared.cause.Cause.{Cause}
 use Rattle.run_inputs.specs.declared.cause.Cause.TheVariants as cause
@@ -149,13 +151,17 @@ module _ (reader : OneReading) where
     one_stop (i ∷ is) place c d l m told n o (inr h) (inr k) = one_stop is (place + 1) c d l m told.1 n o h.2 k.2
 
     -- files that are all read don't end the run
-    pub all_apart : (is : List Input) (place : ℕ) (v : Values is) (c : Cause) (l : List ℕ) → AreTold held is → IsReached c
-        → AreRead is held v → StopsReading is place held before after c l → ⊥
-    all_apart [] place v c l told n h k = k
-    all_apart (i ∷ is) place v c l told n h (inl k) = read_apart i place v.0 c l told.0 n h.0 k
-    all_apart (i ∷ is) place v c l told n h (inr k) = all_apart is (place + 1) v.1 c l told.1 n h.1 k.2
+    pub all_apart : (rs : List Reader) (names : List (List ℕ)) (place : ℕ) (v : Values rs) (c : Cause) (l : List ℕ) → AreTold held (inputs rs names) → IsReached c
+        → AreRead rs names held v → StopsReading (inputs rs names) place held before after c l → ⊥
+    all_apart [] names place v c l told n h k = k
+    all_apart (r ∷ rs) [] place v c l told n h k = k
+    all_apart (r ∷ rs) (name ∷ names) place v c l told n h (inl k) = read_apart (input r name) place v.0 c l told.0 n h.0 k
+    all_apart (r ∷ rs) (name ∷ names) place v c l told n h (inr k) = all_apart rs names (place + 1) v.1 c l told.1 n h.1 k.2
 
-    pub same_values : (is : List Input) (u v : Values is) → AreTold held is → AreRead is held u → AreRead is held v → u ≡ v
-    same_values [] u v told h k = refl
-    same_values (i ∷ is) u v told h k = let first = one_read i.reader (held i.name) u.0 v.0 told.0 h.0 k.0 in let rest = same_values is u.1 v.1 told.1 h.1 k.1 in
+    pub same_values : (rs : List Reader) (names : List (List ℕ)) (u v : Values rs) → AreTold held (inputs rs names) → AreRead rs names held u → AreRead rs names held v → u ≡ v
+    same_values [] names u v told h k = refl
+    same_values (r ∷ rs) [] u v told h k = absurd h
+    same_values (r ∷ rs) (name ∷ names) u v told h k =
+        let first = one_read r (held name) u.0 v.0 told.0 h.0 k.0 in
+        let rest = same_values rs names u.1 v.1 told.1 h.1 k.1 in
         λ j. (first j, rest j)

@@ -36,26 +36,27 @@ use Rattle.multi_band.specs.LinkRules.{link_rules}
 use Rattle.multi_band.specs.LinkSearches.{link_incumbent_of}
 use Rattle.multi_band.specs.LinkSites.{IsLinkSiteOf}
 use Rattle.multi_band.specs.LinkEnough.{link_enough_of}
-use Rattle.run_inputs.specs.Command.{Request, Hold, Check, CheckLinks, Solve, Links, Renew}
+use Rattle.run_laws.specs.Asked as ask
 use Rattle.maxband_run.specs.Outside.{Outside}
 use Rattle.branch_tree.specs.Kinds.{ProvesOf as Proves}
 use Rattle.branch_tree.specs.WholeBands.{whole_bands as kind_of_whole}
 use Rattle.run_commands.specs.Searched.{cause_of}
-use Rattle.run_inputs.specs.Reading.{Value, IsReadAs, Reads, Description}
+use Rattle.run_inputs.specs.Reading.{Value, IsReadAs, Reads}
+use Rattle.run_inputs.specs.declared.reader.Reader.TheVariants.{Description}
 use Rattle.run_commands.specs.Sought.{Sought, whole_bands, bands_of_links}
-use Rattle.maxband_run.specs.Run.{Ends}
-use Rattle.run_laws.specs.Laws.{IsVerdict, IsWholeLimit, HoldsCertificate, value_line, open_lines, PutsBest, PutsNone, PutsBound, SearchSays}
+use Rattle.maxband_run.specs.Run.{Question, Ends}
+use Rattle.run_laws.specs.Laws.{IsWholeLimit, HoldsCertificate, value_line, open_lines, PutsBest, PutsNone, PutsBound, SearchSays}
 use Rattle.run_laws.specs.Laws.{SolveSays, LinksSay, HoldSays, CheckSays, CheckLinksSays, SaysGood, SaysBroken, SaysAccepted, SaysRejected}
 use Rattle.run_laws.specs.Laws.{SaysChecked, PutsRenewed, RenewSays}
 use Rattle.run_laws.specs.StopLaws.{IsOutOfWork, StopsFor, SearchStops, whole_stops, link_stops, StopSays, SolveStopSays, LinksStopSays}
 use Rattle.run_inputs.specs.Status.{number_of}
 use Rattle.run_inputs.specs.declared.cause.Cause.{Cause}
 use Rattle.run_inputs.specs.declared.cause.Cause.TheVariants as cause
+use Rattle.run_commands.specs.Ends.{IsVerdict}
 use Rattle.run_commands.specs.Checked.{Checked, whole_checked, links_checked}
 use Rattle.run_commands.specs.Check.{Accepts, Rejects, Checks}
 use Rattle.run_laws.proofs.Complete.{Completes}
 use Rattle.run_laws.proofs.Found.{Found, zero_is, found_done, found_four}
-use Rattle.maxband_run.proofs.Reached.{AllFour}
 use Rattle.run_laws.proofs.Once.{RefusedApart}
 use Rattle.run_laws.proofs.Kept.{found_keeps, four_refuses}
 use Rattle.run_laws.proofs.Reports.{after_value, open_first, after_weighted, weighted_first, after_link_value}
@@ -215,25 +216,25 @@ module _ (k : Sought) (s : Checked k) (stops : SearchStops k.Timing) (whole : Wh
         why,
       )
 
-module _ (k : Sought) (s : Checked k) (stops : SearchStops k.Timing) (whole : WholeLimits k.Timing stops) (asks : List ℕ → List ℕ → Option ℕ → Request)
-    (put : (before now : Outside) (artery certificate : List ℕ) (limit : Option ℕ) (c : Cause) → IsVerdict c → Completes before now (Some (asks artery certificate limit)) c
+module _ (k : Sought) (s : Checked k) (stops : SearchStops k.Timing) (whole : WholeLimits k.Timing stops) (asks : List ℕ → List ℕ → Option ℕ → Question)
+    (put : (before now : Outside) (artery certificate : List ℕ) (limit : Option ℕ) (c : Cause) → IsVerdict c → Completes before now (asks artery certificate limit) c
     → HasPut k s stops before now artery certificate limit c)
   where
     module _ (before now : Outside) (artery certificate : List ℕ) (limit : Option ℕ) where
-      zero_says : (c : Cause) → c ≡ cause.Done → Ends before now (Some (asks artery certificate limit)) c → PutsBest k s before now artery certificate
+      zero_says : (c : Cause) → c ≡ cause.Done → Ends before now (asks artery certificate limit) c → PutsBest k s before now artery certificate
       zero_says c e h =
           puts_best k s stops whole before now artery certificate limit (put before now artery certificate limit cause.Done tt
-          (subst (λ (d : Cause). Ends before now (Some (asks artery certificate limit)) d) e h))
+          (subst (λ (d : Cause). Ends before now (asks artery certificate limit) d) e h))
 
-      one_says : (c : Cause) → c ≡ cause.NoTiming → Ends before now (Some (asks artery certificate limit)) c → PutsNone k s before now artery certificate
+      one_says : (c : Cause) → c ≡ cause.NoTiming → Ends before now (asks artery certificate limit) c → PutsNone k s before now artery certificate
       one_says c e h =
           puts_none k s stops whole before now artery certificate limit (put before now artery certificate limit cause.NoTiming tt
-          (subst (λ (d : Cause). Ends before now (Some (asks artery certificate limit)) d) e h))
+          (subst (λ (d : Cause). Ends before now (asks artery certificate limit) d) e h))
 
-      two_says : (c : Cause) (stop : Stop SitePart) → c ≡ cause.Stopped stop → Ends before now (Some (asks artery certificate limit)) c → PutsStop k s stops whole before now artery certificate limit c
+      two_says : (c : Cause) (stop : Stop SitePart) → c ≡ cause.Stopped stop → Ends before now (asks artery certificate limit) c → PutsStop k s stops whole before now artery certificate limit c
       two_says c stop e h = subst (λ (d : Cause). PutsStop k s stops whole before now artery certificate limit d) (sym e)
           (puts_stop k s stops whole before now artery certificate limit stop (put before now artery certificate limit (cause.Stopped stop) tt
-          (subst (λ (d : Cause). Ends before now (Some (asks artery certificate limit)) d) e h)))
+          (subst (λ (d : Cause). Ends before now (asks artery certificate limit) d) e h)))
 
     stop_says : StopSays k s stops asks
     stop_says before now artery certificate limit c h e = let stop = two_is c e in two_says before now artery certificate limit c stop.0 stop.1 h
@@ -280,18 +281,18 @@ whole_proves a (Some plan) bound Best h = h
 whole_proves a timing bound NoTiming h = h
 whole_proves a timing bound (Stopped stop) h = h
 
-solve_put : (before now : Outside) (artery certificate : List ℕ) (limit : Option ℕ) (c : Cause) → IsVerdict c → Completes before now (Some (Solve artery certificate limit)) c
+solve_put : (before now : Outside) (artery certificate : List ℕ) (limit : Option ℕ) (c : Cause) → IsVerdict c → Completes before now (ask.solve artery certificate limit) c
     → HasPut whole_bands whole_checked whole_stops before now artery certificate limit c
 solve_put before now artery certificate limit c v h =
-    let f = verdict_found before.holds before.reads now.reads (Some (Solve artery certificate limit)) c h.0 h.1 v h.2 in
-    let s = f.finds.2 in
+    let f = verdict_found before.holds before.reads now.reads (ask.solve artery certificate limit) c h.0 h.1 v h.2 in
+    let s = f.finds.finds.2 in
     record {
       street = f.values.0;
       description = f.read.0;
       lines = h.0;
       written = h.3.written;
-      text = f.finds.0;
-      held = (is_put before now certificate f.finds.0 h.0 h.1 f.bytes f.put_is f.finds.1 h.3).0;
+      text = f.finds.finds.0;
+      held = (is_put before now certificate f.finds.finds.0 h.0 h.1 f.bytes f.put_is f.finds.finds.1 h.3).0;
       tells = record {
         verdict = s.found.verdict;
         timing = s.found.timing;
@@ -317,10 +318,10 @@ whole_spent : WholeLimits TimingRecord whole_stops
 whole_spent a limit timing bound stop h = whole_limit (rules_of a) (enough_of a) (IsSiteOf a) limit bound (incumbent_of a timing) stop h
 
 pub solve_says : SolveSays
-solve_says = search_says whole_bands whole_checked whole_stops whole_spent Solve solve_put
+solve_says = search_says whole_bands whole_checked whole_stops whole_spent ask.solve solve_put
 
 pub solve_stop_says : SolveStopSays
-solve_stop_says = stop_says whole_bands whole_checked whole_stops whole_spent Solve solve_put
+solve_stop_says = stop_says whole_bands whole_checked whole_stops whole_spent ask.solve solve_put
 
 -- ---- links
 link_proves : (a : Street) (timing : Option LinkRecord) (bound : ℚ) (verdict : Verdict SitePart) → Proves (kind_of_links a) timing bound verdict → ProvesOf bands_of_links a timing bound verdict
@@ -329,18 +330,18 @@ link_proves a (Some plan) bound Best h = h
 link_proves a timing bound NoTiming h = h
 link_proves a timing bound (Stopped stop) h = h
 
-links_put : (before now : Outside) (artery certificate : List ℕ) (limit : Option ℕ) (c : Cause) → IsVerdict c → Completes before now (Some (Links artery certificate limit)) c
+links_put : (before now : Outside) (artery certificate : List ℕ) (limit : Option ℕ) (c : Cause) → IsVerdict c → Completes before now (ask.links artery certificate limit) c
     → HasPut bands_of_links links_checked link_stops before now artery certificate limit c
 links_put before now artery certificate limit c v h =
-    let f = verdict_found before.holds before.reads now.reads (Some (Links artery certificate limit)) c h.0 h.1 v h.2 in
-    let s = f.finds.2 in
+    let f = verdict_found before.holds before.reads now.reads (ask.links artery certificate limit) c h.0 h.1 v h.2 in
+    let s = f.finds.finds.2 in
     record {
       street = f.values.0;
       description = f.read.0;
       lines = h.0;
       written = h.3.written;
-      text = f.finds.0;
-      held = (is_put before now certificate f.finds.0 h.0 h.1 f.bytes f.put_is f.finds.1 h.3).0;
+      text = f.finds.finds.0;
+      held = (is_put before now certificate f.finds.finds.0 h.0 h.1 f.bytes f.put_is f.finds.finds.1 h.3).0;
       tells = record {
         verdict = s.found.verdict;
         timing = s.found.timing;
@@ -366,45 +367,49 @@ links_spent : WholeLimits LinkRecord link_stops
 links_spent a limit timing bound stop h = whole_limit (link_rules a) (link_enough_of a) (IsLinkSiteOf a) limit bound (link_incumbent_of a timing) stop h
 
 pub links_say : LinksSay
-links_say = search_says bands_of_links links_checked link_stops links_spent Links links_put
+links_say = search_says bands_of_links links_checked link_stops links_spent ask.links links_put
 
 pub links_stop_says : LinksStopSays
-links_stop_says = stop_says bands_of_links links_checked link_stops links_spent Links links_put
+links_stop_says = stop_says bands_of_links links_checked link_stops links_spent ask.links links_put
 
 -- ---- hold
 module _ (rules : FailsRulesOut) (before now : Outside) (artery timing : List ℕ) where
-  says_good : Found before now (Some (Hold artery timing)) cause.Done → SaysGood before now artery timing
+  says_good : Found before now (ask.hold artery timing) cause.Done → SaysGood before now artery timing
   says_good f = record {
     street = f.answer.values.0;
     plan = f.answer.values.1.0;
     description = f.answer.read.0;
     text = f.answer.read.1.0;
-    good = f.answer.finds.0;
-    told = subst (λ (l : List ℕ). Appends before.taken now.taken l) f.answer.finds.1 f.done.written;
+    good = f.answer.finds.finds.0;
+    told = subst (λ (l : List ℕ). Appends before.taken now.taken l) f.answer.finds.finds.1 f.done.written;
   }
 
-  says_broken : (c : Cause) → number_of c ≡ 4 → Found before now (Some (Hold artery timing)) c → SaysBroken before artery timing c
+  says_broken : (c : Cause) → number_of c ≡ 4 → Found before now (ask.hold artery timing) c → SaysBroken before artery timing c
   says_broken (cause.Fails f) e k = record {
     street = k.answer.values.0;
     plan = k.answer.values.1.0;
     failing = f;
     description = k.answer.read.0;
     text = k.answer.read.1.0;
-    fails = k.answer.finds.0.fails;
-    not_good = rules k.answer.values.0 k.answer.values.1.0 f k.answer.finds.0.fails;
+    fails = k.answer.finds.finds.0.fails;
+    not_good = rules k.answer.values.0 k.answer.values.1.0 f k.answer.finds.finds.0.fails;
     cause_is = refl;
   }
-  says_broken (cause.Rejected r) e k = absurd k.answer.finds
-  says_broken (cause.LinkRejected r) e k = absurd k.answer.finds
+  says_broken (cause.Rejected r) e k = absurd k.answer.finds.finds
+  says_broken (cause.LinkRejected r) e k = absurd k.answer.finds.finds
   says_broken c e k = absurd cc
 
 pub hold_says : FailsRulesOut → HoldSays
 hold_says rules before now artery timing c h = (
-  (λ e. says_good rules before now artery timing (found_done before now (Some (Hold artery timing)) c e h)),
-  (λ e. says_broken rules before now artery timing c e (found_four before now (Some (Hold artery timing)) c e h)),
+  (λ e. says_good rules before now artery timing (found_done before now (ask.hold artery timing) c e h)),
+  (λ e. says_broken rules before now artery timing c e (found_four before now (ask.hold artery timing) c e h)),
 )
 
 -- ---- check and check-links
+-- each refusal of a check has status 4
+abbrev AllFour : (k : Sought) → Checked k → Type 0
+AllFour k s = (r : s.Reject) → number_of (s.cause r) ≡ 4
+
 zero_apart : ◌≡◌ {A = ℕ} 0 4 → ⊥
 zero_apart e = omega (arith, e)
 
@@ -453,15 +458,15 @@ module _ (k : Sought) (s : Checked k) (four : AllFour k s) (apart : RefusedApart
         kept = f.kept (four_refuses c e);
       }
 
-module _ (k : Sought) (s : Checked k) (asks : List ℕ → List ℕ → Request)
-    (checked : (before now : Outside) (artery certificate : List ℕ) (c : Cause) → Found before now (Some (asks artery certificate)) c → FoundChecked k s before now artery certificate c) where
+module _ (k : Sought) (s : Checked k) (asks : List ℕ → List ℕ → Question)
+    (checked : (before now : Outside) (artery certificate : List ℕ) (c : Cause) → Found before now (asks artery certificate) c → FoundChecked k s before now artery certificate c) where
   says_checked : AllFour k s → RefusedApart k s → SaysChecked k s asks
   says_checked four apart before now artery certificate c h = (
-    (λ e. says_accepted k s four apart before now artery certificate (checked before now artery certificate cause.Done (found_done before now (Some (asks artery certificate)) c e h))),
-    (λ e. says_rejected k s four apart before now artery certificate c e (checked before now artery certificate c (found_four before now (Some (asks artery certificate)) c e h))),
+    (λ e. says_accepted k s four apart before now artery certificate (checked before now artery certificate cause.Done (found_done before now (asks artery certificate) c e h))),
+    (λ e. says_rejected k s four apart before now artery certificate c e (checked before now artery certificate c (found_four before now (asks artery certificate) c e h))),
   )
 
-check_found : (before now : Outside) (artery certificate : List ℕ) (c : Cause) → Found before now (Some (Check artery certificate)) c
+check_found : (before now : Outside) (artery certificate : List ℕ) (c : Cause) → Found before now (ask.check artery certificate) c
     → FoundChecked whole_bands whole_checked before now artery certificate c
 check_found before now artery certificate c f = record {
   street = f.answer.values.0;
@@ -469,15 +474,15 @@ check_found before now artery certificate c f = record {
   lines = f.lines;
   description = f.answer.read.0;
   text = f.answer.read.1.0;
-  finds = f.answer.finds;
+  finds = f.answer.finds.finds;
   told = f.done.written;
-  kept = λ n. found_keeps before now (Some (Check artery certificate)) c n f;
+  kept = λ n. found_keeps before now (ask.check artery certificate) c n f f.answer.finds.answer;
 }
 
 pub check_says : RefusedIsNotAccepted → CheckSays
-check_says apart = says_checked whole_bands whole_checked Check check_found (λ r. refl) apart
+check_says apart = says_checked whole_bands whole_checked ask.check check_found (λ r. refl) apart
 
-check_links_found : (before now : Outside) (artery certificate : List ℕ) (c : Cause) → Found before now (Some (CheckLinks artery certificate)) c
+check_links_found : (before now : Outside) (artery certificate : List ℕ) (c : Cause) → Found before now (ask.check_links artery certificate) c
     → FoundChecked bands_of_links links_checked before now artery certificate c
 check_links_found before now artery certificate c f = record {
   street = f.answer.values.0;
@@ -485,26 +490,26 @@ check_links_found before now artery certificate c f = record {
   lines = f.lines;
   description = f.answer.read.0;
   text = f.answer.read.1.0;
-  finds = f.answer.finds;
+  finds = f.answer.finds.finds;
   told = f.done.written;
-  kept = λ n. found_keeps before now (Some (CheckLinks artery certificate)) c n f;
+  kept = λ n. found_keeps before now (ask.check_links artery certificate) c n f f.answer.finds.answer;
 }
 
 pub check_links_says : LinkRefusedIsNotAccepted → CheckLinksSays
-check_links_says apart = says_checked bands_of_links links_checked CheckLinks check_links_found (λ r. refl) apart
+check_links_says apart = says_checked bands_of_links links_checked ask.check_links check_links_found (λ r. refl) apart
 
 -- ---- renew
 module _ (before now : Outside) (certificate new : List ℕ) where
-  puts_renewed : Completes before now (Some (Renew certificate new)) cause.Done → PutsRenewed before now certificate new
+  puts_renewed : Completes before now (ask.renew certificate new) cause.Done → PutsRenewed before now certificate new
   puts_renewed h =
-      let f = verdict_found before.holds before.reads now.reads (Some (Renew certificate new)) cause.Done h.0 h.1 tt h.2 in
-      let held = is_put before now new f.finds.0 h.0 h.1 f.bytes f.put_is f.finds.1 h.3 in
+      let f = verdict_found before.holds before.reads now.reads (ask.renew certificate new) cause.Done h.0 h.1 tt h.2 in
+      let held = is_put before now new f.finds.finds.0 h.0 h.1 f.bytes f.put_is f.finds.finds.1 h.3 in
       record {
         warrant = f.values.0;
         text = f.read.0;
-        put = subst (λ (x : List ℕ). HoldsExactly (now.holds new) x) f.finds.2.text_is.written held.0;
-        read_back = subst (λ (x : List ℕ). certificate_of x ≡ Ok f.values.0) f.finds.2.text_is.written f.finds.2.text_is.read_back;
+        put = subst (λ (x : List ℕ). HoldsExactly (now.holds new) x) f.finds.finds.2.text_is.written held.0;
+        read_back = subst (λ (x : List ℕ). certificate_of x ≡ Ok f.values.0) f.finds.finds.2.text_is.written f.finds.finds.2.text_is.read_back;
       }
 
 pub renew_says : RenewSays
-renew_says before now certificate new c h e = puts_renewed before now certificate new (subst (λ (d : Cause). Ends before now (Some (Renew certificate new)) d) (zero_is c e) h)
+renew_says before now certificate new c h e = puts_renewed before now certificate new (subst (λ (d : Cause). Ends before now (ask.renew certificate new) d) (zero_is c e) h)

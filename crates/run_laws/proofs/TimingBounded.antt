@@ -9,7 +9,8 @@ use Rattle.certificate_model.specs.declared.certificate.Claim.{Claim}
 use Rattle.certificate_model.specs.declared.certificate.Claim.TheVariants as claim
 use Rattle.certificate_checker.specs.Claims.{ClaimHolds}
 use Rattle.certificate_checker.specs.Laws.{RefusedIsNotAccepted}
-use Rattle.run_inputs.specs.Reading.{Reads, Description}
+use Rattle.run_inputs.specs.Reading.{Reads}
+use Rattle.run_inputs.specs.declared.reader.Reader.TheVariants.{Description}
 use Rattle.run_commands.specs.Hold.{IsJudged}
 use Rattle.run_laws.specs.PlanLaws.{IsWithin, TimingIsBounded}
 use Rattle.run_laws.proofs.Readers.{OneReading, one_read}

@@ -14,14 +14,19 @@ use Rattle.cycle_sweep.specs.Rows.{at_cycle}
 use Rattle.cycle_sweep.specs.declared.row.SweepRow.{SweepRow}
 use Rattle.cycle_sweep.specs.declared.row.SweepRow.TheVariants as row
 use Rattle.workload_maker.specs.Made.{made_street}
-use Rattle.run_inputs.specs.Command.{Request, Solve, Links, Trial, Sweep}
 use Rattle.run_inputs.specs.Puts.{NamedBytes}
 use Rattle.maxband_run.specs.Outside.{Outside}
-use Rattle.run_inputs.specs.Reading.{input, IsUnread, Description}
+use Rattle.run_inputs.specs.Reading.{input, inputs, Values, IsUnread, StopsReading}
+use Rattle.run_inputs.specs.declared.reader.Reader.TheVariants.{Description}
 use Rattle.run_commands.specs.Searched.{cause_of}
-use Rattle.maxband_run.specs.Run.{Answers, Ends}
+use Rattle.run_commands.specs.Settings.{Settings}
+use Rattle.run_commands.specs.Table.{readers, Finds}
+use Rattle.run_commands.specs.Words.{Request}
+use Rattle.run_commands.specs.declared.table.Usage.{Usage}
+use Rattle.run_commands.specs.declared.table.Usage.TheVariants as usage
+use Rattle.maxband_run.specs.Run.{question, Answers, Ends}
 use Rattle.run_laws.specs.PlanLaws.{SaysCycle}
-use Rattle.run_laws.specs.StopLaws.{IsUnlimited, EndsOtherThanByWork, IsOtherThanByWork, AllNeverStopsByWork}
+use Rattle.run_laws.specs.StopLaws.{Searches, IsUnlimited, EndsOtherThanByWork, IsOtherThanByWork, AllNeverStopsByWork}
 use Rattle.run_inputs.specs.declared.cause.Cause.{Cause}
 use Rattle.run_inputs.specs.declared.cause.Cause.TheVariants as cause
 
@@ -42,19 +47,42 @@ unread_end artery held before after (cause.TooLong file) lines h = tt
 unread_end artery held before after (cause.Refused refusal) lines h = tt
 unread_end artery held before after c lines h = absurd h.1.2
 
-answer_end : (asked : Request) → IsUnlimited asked → (held : List ℕ → Option (List ℕ)) (before after : List ℕ → ℕ) (c : Cause) (lines : List ℕ) (put : Option NamedBytes)
-    → Answers held before after (Some asked) c lines put → EndsOtherThanByWork c
-answer_end (Solve artery certificate None) u held before after c lines put (inl h) = elim h.stops [ inl k ↦ unread_end artery held before after c lines k | inr k ↦ absurd k.2 ]
-answer_end (Solve artery certificate None) u held before after c lines put (inr h) = found_end (enough_of h.values.0) c h.finds.2.found.verdict h.finds.2.cause_is h.finds.2.searched.enough
-answer_end (Links artery certificate None) u held before after c lines put (inl h) = elim h.stops [ inl k ↦ unread_end artery held before after c lines k | inr k ↦ absurd k.2 ]
-answer_end (Links artery certificate None) u held before after c lines put (inr h) = found_end (link_enough_of h.values.0) c h.finds.2.found.verdict h.finds.2.cause_is h.finds.2.searched.enough
-answer_end (Trial signals seed None) u held before after c lines put (inl h) = absurd h.stops
-answer_end (Trial signals seed None) u held before after c lines put (inr h) = found_end (enough_of (made_street signals seed)) c h.finds.found.verdict h.finds.cause_is h.finds.searched.enough
-answer_end (Sweep artery table None words) u held before after c lines put (inl h) = elim h.stops [ inl k ↦ unread_end artery held before after c lines k | inr k ↦ absurd k.2 ]
-answer_end (Sweep artery table None words) u held before after c lines put (inr h) = subst EndsOtherThanByWork (sym h.finds.2.cause_is) tt
-answer_end asked u held before after c lines put h = absurd u
+-- or at one of the files of a command that reads a description alone
+stop_end : (names : List (List ℕ)) (held : List ℕ → Option (List ℕ)) (before after : List ℕ → ℕ) (c : Cause) (lines : List ℕ)
+    → StopsReading (inputs (Description ∷ []) names) 1 held before after c lines → EndsOtherThanByWork c
+stop_end [] held before after c lines h = absurd h
+stop_end (artery ∷ names) held before after c lines (inl h) = unread_end artery held before after c lines h
+stop_end (artery ∷ names) held before after c lines (inr h) = absurd h.2
 
-run_end : (before now : Outside) (asked : Request) (c : Cause) → IsUnlimited asked → Ends before now (Some asked) c → EndsOtherThanByWork c
+-- a search within a limit, of which there is none
+no_limit : (enough : ℕ) (limit : Option ℕ) (verdict : Verdict SitePart) → limit ≡ None → IsWithin enough limit verdict → IsWithin enough None verdict
+no_limit enough limit verdict e h = subst (λ (o : Option ℕ). IsWithin enough o verdict) e h
+
+stops_end : (u : Usage) → Searches u → (names : List (List ℕ)) (held : List ℕ → Option (List ℕ)) (before after : List ℕ → ℕ) (c : Cause) (lines : List ℕ)
+    → StopsReading (inputs (readers u) names) 1 held before after c lines → EndsOtherThanByWork c
+stops_end usage.Solve s names held before after c lines h = stop_end names held before after c lines h
+stops_end usage.Links s names held before after c lines h = stop_end names held before after c lines h
+stops_end usage.Sweep s names held before after c lines h = stop_end names held before after c lines h
+stops_end usage.Trial s names held before after c lines h = absurd h
+stops_end u s names held before after c lines h = absurd s
+
+finds_end : (u : Usage) → Searches u → (v : Values (readers u)) (n : Settings) → n.limit ≡ None → (c : Cause) (lines : List ℕ) (put : Option (List ℕ)) → Finds u v n c lines put → EndsOtherThanByWork c
+finds_end usage.Solve s v n e c lines put h =
+    found_end (enough_of v.0) c h.2.found.verdict h.2.cause_is (no_limit (enough_of v.0) n.limit h.2.found.verdict e h.2.searched.enough)
+finds_end usage.Links s v n e c lines put h =
+    found_end (link_enough_of v.0) c h.2.found.verdict h.2.cause_is (no_limit (link_enough_of v.0) n.limit h.2.found.verdict e h.2.searched.enough)
+finds_end usage.Trial s v n e c lines put h =
+    let enough = enough_of (made_street n.signals n.seed) in
+    found_end enough c h.found.verdict h.cause_is (no_limit enough n.limit h.found.verdict e h.searched.enough)
+finds_end usage.Sweep s v n e c lines put h = subst EndsOtherThanByWork (sym h.2.cause_is) tt
+finds_end u s v n e c lines put h = absurd s
+
+answer_end : (r : Request) → IsUnlimited r → (held : List ℕ → Option (List ℕ)) (before after : List ℕ → ℕ) (c : Cause) (lines : List ℕ) (put : Option NamedBytes)
+    → Answers held before after (question (Some r)) c lines put → EndsOtherThanByWork c
+answer_end r u held before after c lines put (inl h) = stops_end r.usage u.0 r.reads held before after c lines h.stops
+answer_end r u held before after c lines put (inr h) = finds_end r.usage u.0 h.values r.settings u.1 c lines h.bytes h.finds.finds
+
+run_end : (before now : Outside) (asked : Request) (c : Cause) → IsUnlimited asked → Ends before now (question (Some asked)) c → EndsOtherThanByWork c
 run_end before now asked cause.WriteFault u h = tt
 run_end before now asked cause.Memory u h = tt
 run_end before now asked c u h = answer_end asked u before.holds before.reads now.reads c h.0 h.1 h.2

@@ -27,15 +27,21 @@ use Rattle.run_commands.specs.CheckLines.{accepted_line}
 use Rattle.run_commands.specs.Lines.{holds_lines}
 use Rattle.run_inputs.specs.Puts.{NamedBytes}
 use Rattle.maxband_run.specs.Outside.{Outside}
-use Rattle.run_inputs.specs.Command.{Request, Hold, Check, CheckLinks, Solve, Links, Renew, Help, Sweep, shape, request_of}
-use Rattle.run_inputs.specs.Reading.{Input, Value, most_bytes, IsReadAs, Reads, Describes, AreTold, Description, Timing, Certificate}
-use Rattle.run_commands.specs.Usages.{usage_line, usage_of}
-use Rattle.run_commands.specs.declared.usage.Usage.{Usage}
+use Rattle.run_laws.specs.Asked as ask
+use Rattle.run_inputs.specs.Reading.{Value, inputs, most_bytes, IsReadAs, Reads, Describes, AreTold}
+use Rattle.run_inputs.specs.declared.reader.Reader.{Reader}
+use Rattle.run_inputs.specs.declared.reader.Reader.TheVariants.{Description, Timing, Certificate}
+use Rattle.run_commands.specs.Ends.{IsVerdict}
+use Rattle.run_commands.specs.Settings.{unsaid}
+use Rattle.run_commands.specs.Table.{row}
+use Rattle.run_commands.specs.Words.{Request, request_of}
+use Rattle.run_commands.specs.declared.table.Usage.{Usage}
+use Rattle.run_commands.specs.declared.table.Usage.TheVariants as usage
 use Rattle.run_commands.specs.Sought.{Sought, whole_bands, bands_of_links}
 use Rattle.run_commands.specs.Checked.{Checked, whole_checked, links_checked}
 use Rattle.run_commands.specs.Solve.{IsSolution}
 use Rattle.run_commands.specs.Links.{IsLinkSolution}
-use Rattle.maxband_run.specs.Run.{Answers, Ends}
+use Rattle.maxband_run.specs.Run.{Question, question, Answers, Ends}
 use Rattle.run_inputs.specs.Status.{number_of, IsReached}
 use Rattle.run_inputs.specs.declared.cause.Cause.{Cause}
 use Rattle.run_inputs.specs.declared.cause.Cause.TheVariants as cause
@@ -46,49 +52,51 @@ IsFault (cause.ReadFault file) = Unit {0}
 IsFault cause.WriteFault = Unit {0}
 IsFault _ = ⊥
 
--- an answer that a search gave
-abbrev pub IsVerdict : Cause → Type 0
-IsVerdict cause.Done = Unit {0}
-IsVerdict cause.NoTiming = Unit {0}
-IsVerdict (cause.Stopped stop) = Unit {0}
-IsVerdict _ = ⊥
-
 -- ---- one answer
 -- the same bytes are put into the same file, or nothing is; but a table's searches may find other rows
+abbrev pub SameBytes : Usage → Option NamedBytes → Option NamedBytes → Type 0
+SameBytes usage.Sweep p q = option_map (λ b. b.name) p ≡ option_map (λ b. b.name) q
+SameBytes u p q = p ≡ q
+
 abbrev pub SamePut : Option Request → Option NamedBytes → Option NamedBytes → Type 0
-SamePut (Some (Sweep artery table limit cycles)) p q = option_map (λ b. b.name) p ≡ option_map (λ b. b.name) q
-SamePut asked p q = p ≡ q
+SamePut None p q = p ≡ q
+SamePut (Some r) p q = SameBytes r.usage p q
 
 pub record Same (asked : Option Request) (c : Cause) (x : List ℕ) (p : Option NamedBytes) (d : Cause) (y : List ℕ) (q : Option NamedBytes) : Type 0 where
   pub cause : c ≡ d
   pub lines : x ≡ y
   pub put : SamePut asked p q
 
+-- whether any of several best answers may be told
+abbrev pub chooses : Option Request → Bool
+chooses None = false
+chooses (Some r) = (row r.usage).chooses
+
 -- Two answers to the same words are the same. Two of a command that chooses may both be verdicts, since of several best timings any may be found; where it reads no file
 -- they are.
-abbrev pub Agree : Bool → List Input → Type 0 → Type 0 → Type 0
-Agree false inputs same verdicts = same
+abbrev pub Agree : Bool → List Reader → Type 0 → Type 0 → Type 0
+Agree false readers same verdicts = same
 Agree true [] same verdicts = verdicts
-Agree true (i ∷ is) same verdicts = same ⊎ verdicts
+Agree true (r ∷ rs) same verdicts = same ⊎ verdicts
 
 -- What files that tell their bytes hold, and the words, leave one answer, its cause, its lines and what it puts: so each status but 0, 1 and 2 of `solve`, `links` and
 -- `trial`, that of a fault and that of want of memory comes exactly by its cause.
+abbrev pub AnswersAgree : (List ℕ → Option (List ℕ)) → (List ℕ → ℕ) → (List ℕ → ℕ) → Option Request → Question → Type 0
+AnswersAgree held before after asked q = (c d : Cause) (x y : List ℕ) (put other : Option NamedBytes) → AreTold held (inputs q.readers q.names) → IsReached c → IsReached d
+    → Answers held before after q c x put → Answers held before after q d y other → Agree (chooses asked) q.readers (Same asked c x put d y other) (IsVerdict c × IsVerdict d)
+
 abbrev pub OneAnswer : Type 0
-OneAnswer = (held : List ℕ → Option (List ℕ)) (before after : List ℕ → ℕ) (asked : Option Request) (c d : Cause) (x y : List ℕ) (p q : Option NamedBytes)
-    → AreTold held (shape asked).inputs → IsReached c → IsReached d
-    → Answers held before after asked c x p → Answers held before after asked d y q
-    → Agree (shape asked).chooses (shape asked).inputs (Same asked c x p d y q) (IsVerdict c × IsVerdict d)
+OneAnswer = (held : List ℕ → Option (List ℕ)) (before after : List ℕ → ℕ) (words : List (List ℕ)) → AnswersAgree held before after (request_of words) (question (request_of words))
 
 -- ---- faults
 -- Unless the run ends by a fault no count has changed: each failed read, put and write is told.
 abbrev pub FaultsAreTold : Type 0
-FaultsAreTold = (before now : Outside) (asked : Option Request) (c : Cause)
-    → Ends before now asked c → ¬ IsFault c
+FaultsAreTold = (before now : Outside) (asked : Option Request) (c : Cause) → Ends before now (question asked) c → ¬ IsFault c
     → SameCounts before.reads now.reads × SameCounts before.puts now.puts × (now.writes ≡ before.writes)
 
 -- A run that ends neither with a verdict nor by a failed put or write leaves every file that tells as it was.
 abbrev pub RefusalsKeepFiles : Type 0
-RefusalsKeepFiles = (before now : Outside) (asked : Option Request) (c : Cause) → Ends before now asked c → ¬ IsVerdict c → c ≢ cause.WriteFault → SameFiles before.holds now.holds
+RefusalsKeepFiles = (before now : Outside) (asked : Option Request) (c : Cause) → Ends before now (question asked) c → ¬ IsVerdict c → c ≢ cause.WriteFault → SameFiles before.holds now.holds
 
 -- ---- a search and its check
 -- a search within the limit ends with this cause, these lines, this text and this certificate
@@ -117,17 +125,17 @@ pub record IsConfirmed (k : Sought) (s : Checked k) (solves : Solves k) (before 
 
 -- After a verdict of a search that is asked for so, a run of its check over the same description and the file that was put accepts what was found, unless a fault or
 -- want of memory ends it: where these are two files that tell their bytes, and the certificate isn't too long to be read.
-abbrev pub SearchIsAccepted : (k : Sought) → Checked k → Solves k → (List ℕ → List ℕ → Option ℕ → Request) → (List ℕ → List ℕ → Request) → Type 0
+abbrev pub SearchIsAccepted : (k : Sought) → Checked k → Solves k → (List ℕ → List ℕ → Option ℕ → Question) → (List ℕ → List ℕ → Question) → Type 0
 SearchIsAccepted k s solves asks checks = (before between now : Outside) (artery certificate : List ℕ) (limit : Option ℕ) (c d : Cause)
     → artery ≢ certificate → IsSome (before.holds artery) → IsSome (between.holds certificate) → IfSome (between.holds certificate) (λ bytes. length bytes ≤ most_bytes k.reader)
-    → IsVerdict c → Ends before between (Some (asks artery certificate limit)) c
-    → IsReached d → Ends between now (Some (checks artery certificate)) d → IsConfirmed k s solves before between now artery certificate limit c d
+    → IsVerdict c → Ends before between (asks artery certificate limit) c
+    → IsReached d → Ends between now (checks artery certificate) d → IsConfirmed k s solves before between now artery certificate limit c d
 
 abbrev pub PutIsAccepted : Type 0
-PutIsAccepted = SearchIsAccepted whole_bands whole_checked whole_solves Solve Check
+PutIsAccepted = SearchIsAccepted whole_bands whole_checked whole_solves ask.solve ask.check
 
 abbrev pub PutLinksAreAccepted : Type 0
-PutLinksAreAccepted = SearchIsAccepted bands_of_links links_checked links_solve Links CheckLinks
+PutLinksAreAccepted = SearchIsAccepted bands_of_links links_checked links_solve ask.links ask.check_links
 
 -- ---- what the numbers of the statuses say of the model
 -- The file holds, where it is told, a text that is read as a certificate with this claim and this timing, and the check of its kind accepts that on the artery.
@@ -191,33 +199,34 @@ pub record PutsBound (k : Sought) (s : Checked k) (before now : Outside) (artery
   pub whole_limit : IsWholeLimit limit stop
 
 -- what the statuses of a command say that is asked for so and searches for this
-abbrev pub SearchSays : (k : Sought) → Checked k → (List ℕ → List ℕ → Option ℕ → Request) → Type 0
-SearchSays k s asks = (before now : Outside) (artery certificate : List ℕ) (limit : Option ℕ) (c : Cause) → Ends before now (Some (asks artery certificate limit)) c
+abbrev pub SearchSays : (k : Sought) → Checked k → (List ℕ → List ℕ → Option ℕ → Question) → Type 0
+SearchSays k s asks = (before now : Outside) (artery certificate : List ℕ) (limit : Option ℕ) (c : Cause) → Ends before now (asks artery certificate limit) c
     → (number_of c ≡ 0 → PutsBest k s before now artery certificate)
     × (number_of c ≡ 1 → PutsNone k s before now artery certificate)
     × (number_of c ≡ 2 → PutsBound k s before now artery certificate limit c)
 
 abbrev pub SolveSays : Type 0
-SolveSays = SearchSays whole_bands whole_checked Solve
+SolveSays = SearchSays whole_bands whole_checked ask.solve
 
 abbrev pub LinksSay : Type 0
-LinksSay = SearchSays bands_of_links links_checked Links
+LinksSay = SearchSays bands_of_links links_checked ask.links
 
--- the line of a usage begins with the program's name and this word
-pub record IsNamedBy (usage : Usage) (word : List ℕ) : Type 0 where
+-- the line of a command begins with the program's name and its word
+pub record IsNamedBy (line word : List ℕ) : Type 0 where
   pub more : List ℕ
-  pub line : usage_line usage ≡ codes "maxband " ++ (word ++ 32 ∷ more)
+  pub is : line ≡ codes "maxband " ++ (word ++ 32 ∷ more)
 
--- `--help` with status 0: the usage by which this is asked for has its line in what was written, which begins with the first of any words that ask for it
-pub record TellsUsage (before now : Outside) (asked : Request) : Type 0 where
+-- `--help` with status 0: the command that these words ask for has its line in what was written, which begins with the first of them
+pub record TellsUsage (before now : Outside) (asked : Request) (word : List ℕ) : Type 0 where
   pub front : List ℕ
   pub back : List ℕ
-  pub told : Appends before.taken now.taken (front ++ (usage_line (usage_of asked) ++ back))
-  pub word : (first : List ℕ) (more : List (List ℕ)) → request_of (first ∷ more) ≡ Some asked → IsNamedBy (usage_of asked) first
+  pub told : Appends before.taken now.taken (front ++ ((row asked.usage).help ++ back))
+  pub named : IsNamedBy (row asked.usage).help word
 
--- so of each request
+-- so of any words that ask for something
 abbrev pub HelpSays : Type 0
-HelpSays = (before now : Outside) (asked : Request) (c : Cause) → Ends before now (Some Help) c → number_of c ≡ 0 → TellsUsage before now asked
+HelpSays = (before now : Outside) (word : List ℕ) (words : List (List ℕ)) (asked : Request) (c : Cause)
+    → Ends before now (ask.asked usage.Help [] None unsaid) c → number_of c ≡ 0 → request_of (word ∷ words) ≡ Some asked → TellsUsage before now asked word
 
 -- `hold` with status 0: the timing of the second file is good on the artery of the first, and its weighted band is printed
 pub record SaysGood (before now : Outside) (artery timing : List ℕ) : Type 0 where
@@ -240,7 +249,7 @@ pub record SaysBroken (before : Outside) (artery timing : List ℕ) (c : Cause) 
   pub cause_is : c ≡ cause.Fails failing
 
 abbrev pub HoldSays : Type 0
-HoldSays = (before now : Outside) (artery timing : List ℕ) (c : Cause) → Ends before now (Some (Hold artery timing)) c
+HoldSays = (before now : Outside) (artery timing : List ℕ) (c : Cause) → Ends before now (ask.hold artery timing) c
     → (number_of c ≡ 0 → SaysGood before now artery timing) × (number_of c ≡ 4 → SaysBroken before artery timing c)
 
 -- a check with status 0: what the certificate of the second file claims holds of every timing of its kind on the artery of the first, and the claim is printed
@@ -265,15 +274,15 @@ pub record SaysRejected (k : Sought) (s : Checked k) (before now : Outside) (art
   pub kept : SameFiles before.holds now.holds
 
 -- what the statuses of a command say that is asked for so and checks these
-abbrev pub SaysChecked : (k : Sought) → Checked k → (List ℕ → List ℕ → Request) → Type 0
-SaysChecked k s asks = (before now : Outside) (artery certificate : List ℕ) (c : Cause) → Ends before now (Some (asks artery certificate)) c
+abbrev pub SaysChecked : (k : Sought) → Checked k → (List ℕ → List ℕ → Question) → Type 0
+SaysChecked k s asks = (before now : Outside) (artery certificate : List ℕ) (c : Cause) → Ends before now (asks artery certificate) c
     → (number_of c ≡ 0 → SaysAccepted k s before now artery certificate) × (number_of c ≡ 4 → SaysRejected k s before now artery certificate c)
 
 abbrev pub CheckSays : Type 0
-CheckSays = SaysChecked whole_bands whole_checked Check
+CheckSays = SaysChecked whole_bands whole_checked ask.check
 
 abbrev pub CheckLinksSays : Type 0
-CheckLinksSays = SaysChecked bands_of_links links_checked CheckLinks
+CheckLinksSays = SaysChecked bands_of_links links_checked ask.check_links
 
 -- `renew` with status 0: the file that is put holds, where it is told, the second text of the certificate that the first file held, and that text is read as just
 -- this certificate
@@ -284,4 +293,4 @@ pub record PutsRenewed (before now : Outside) (certificate new : List ℕ) : Typ
   pub read_back : certificate_of (second_text warrant) ≡ Ok warrant
 
 abbrev pub RenewSays : Type 0
-RenewSays = (before now : Outside) (certificate new : List ℕ) (c : Cause) → Ends before now (Some (Renew certificate new)) c → number_of c ≡ 0 → PutsRenewed before now certificate new
+RenewSays = (before now : Outside) (certificate new : List ℕ) (c : Cause) → Ends before now (ask.renew certificate new) c → number_of c ≡ 0 → PutsRenewed before now certificate new

@@ -1,3 +1,4 @@
+pub mod Asked
 pub mod Laws
 pub mod PlanLaws
 pub mod StopLaws

@@ -1,8 +1,7 @@
 -- What the statuses of `bands`, `half`, `timing`, `round`, `draw` and `sweep` say of the model: statements about the definitions of a run, each of which a public call proves.
-use Rattle.std.specs.Prelude.{◌≡◌, ◌≢◌, ◌⊎◌, ℕ, ◌-◌, ◌≤◌, List, ◌++◌, length, slice_index, codes, Option, None, Some, Ok, IsSome, IfSome}
+use Rattle.std.specs.Prelude.{◌≡◌, ◌≢◌, ◌⊎◌, ℕ, ◌-◌, ◌≤◌, List, [], ◌∷◌, ◌++◌, length, slice_index, codes, Option, None, Some, Ok, IsSome, IfSome}
 use Rattle.std.specs.List.{AllZip}
 use Rattle.rational_theory.specs.Rational.{ℚ, ◌+ℚ◌, ◌≤ℚ◌}
-use Rattle.outer_edge.specs.Counts.{Rose}
 use Rattle.outer_edge.specs.Held.{SameFiles, HoldsExactly}
 use Rattle.outer_edge.specs.Taken.{Appends}
 use Rattle.progression.specs.Street.{Street, count, HasSignal}
@@ -22,8 +21,6 @@ use Rattle.half_integer.specs.declared.end.HalfEnd.{HalfEnd}
 use Rattle.timing_measures.specs.Measures.{cycle_seconds, offset}
 use Rattle.second_plan.specs.Planned.{IsPlanned, IsBestOfOffsets}
 use Rattle.second_plan.specs.declared.answer.PlanEnd.{PlanEnd}
-use Rattle.second_plan.specs.declared.answer.PlanEnd.TheVariants as end
-use Rattle.half_integer.specs.declared.end.HalfEnd.TheVariants as half_end
 use Rattle.artery_model.specs.declared.kind.Refusal.{Refusal}
 use Rattle.description_reader.specs.Typed.{Typed}
 use Rattle.typed_plan.specs.Ends.{IsTimingOf, Refuses}
@@ -42,8 +39,9 @@ use Rattle.cycle_sweep.specs.Says.{SaysRow}
 use Rattle.cycle_sweep.specs.Table.{row_fields, sweep_text}
 use Rattle.run_inputs.specs.Cycles.{AreCycles}
 use Rattle.maxband_run.specs.Outside.{Outside}
-use Rattle.run_inputs.specs.Command.{Hold, Check, Bands, Round, RoundFrom, Half, TimingOf, Draw, Sweep, shape}
-use Rattle.run_inputs.specs.Reading.{most_bytes, Reads, Description, Timing, Certificate, Timed, TypedPlan, StopsReading}
+use Rattle.run_laws.specs.Asked as ask
+use Rattle.run_inputs.specs.Reading.{input, most_bytes, Reads, StopsReading}
+use Rattle.run_inputs.specs.declared.reader.Reader.TheVariants.{Description, Timing, Certificate, Timed, TypedPlan}
 use Rattle.run_commands.specs.Bands.{widest_line}
 use Rattle.run_commands.specs.Hold.{IsJudged, verdict_line}
 use Rattle.run_commands.specs.Typed.{measured_lines}
@@ -87,7 +85,7 @@ pub record SaysNoBase (before now : Outside) (artery timing : List ℕ) (c : Cau
   pub kept : SameFiles before.holds now.holds
 
 abbrev pub BandsSay : Type 0
-BandsSay = (before now : Outside) (artery timing : List ℕ) (c : Cause) → Ends before now (Some (Bands artery timing)) c
+BandsSay = (before now : Outside) (artery timing : List ℕ) (c : Cause) → Ends before now (ask.bands artery timing) c
     → (number_of c ≡ 0 → SaysWidest before now artery timing) × (number_of c ≡ 4 → SaysNoBase before now artery timing c)
 
 -- ---- half
@@ -128,7 +126,7 @@ pub record SaysUnmatched (before now : Outside) (artery timing : List ℕ) (c : 
   pub kept : SameFiles before.holds now.holds
 
 abbrev pub HalfSays : Type 0
-HalfSays = (before now : Outside) (artery timing new : List ℕ) (c : Cause) → Ends before now (Some (Half artery timing new)) c
+HalfSays = (before now : Outside) (artery timing new : List ℕ) (c : Cause) → Ends before now (ask.half artery timing new) c
     → (number_of c ≡ 0 → SaysHalf before now artery timing new) × (number_of c ≡ 4 → SaysNoBase before now artery timing c) × (number_of c ≡ 11 → SaysUnmatched before now artery timing c)
 
 -- ---- round
@@ -174,7 +172,7 @@ pub record SaysUnplanned (before now : Outside) (artery certificate : List ℕ) 
   pub kept : SameFiles before.holds now.holds
 
 abbrev pub RoundSays : Type 0
-RoundSays = (before now : Outside) (artery certificate plan : List ℕ) (c : Cause) → Ends before now (Some (Round artery certificate plan)) c
+RoundSays = (before now : Outside) (artery certificate plan : List ℕ) (c : Cause) → Ends before now (ask.round artery certificate plan) c
     → (number_of c ≡ 0 → PutsOwnPlan before now artery certificate plan)
     × (number_of c ≡ 4 → SaysRejected whole_bands whole_checked before now artery certificate c)
     × (number_of c ≡ 10 → SaysUnplanned before now artery certificate c)
@@ -217,7 +215,7 @@ pub record SaysUnplannedFrom (before now : Outside) (artery certificate other : 
   pub kept : SameFiles before.holds now.holds
 
 abbrev pub RoundFromSays : Type 0
-RoundFromSays = (before now : Outside) (artery certificate other plan : List ℕ) (c : Cause) → Ends before now (Some (RoundFrom artery certificate other plan)) c
+RoundFromSays = (before now : Outside) (artery certificate other plan : List ℕ) (c : Cause) → Ends before now (ask.round_from artery certificate other plan) c
     → (number_of c ≡ 0 → PutsOtherPlan before now artery certificate other plan)
     × (number_of c ≡ 4 → SaysRejected whole_bands whole_checked before now artery certificate c ⊎ SaysFailing before now artery other c)
     × (number_of c ≡ 10 → SaysUnplannedFrom before now artery certificate other c)
@@ -227,7 +225,7 @@ RoundFromSays = (before now : Outside) (artery certificate other plan : List ℕ
 abbrev pub PlanIsHeld : Type 0
 PlanIsHeld = (before between now : Outside) (artery certificate plan : List ℕ) (c d : Cause)
     → artery ≢ plan → IsSome (before.holds artery) → IsSome (between.holds plan) → IfSome (between.holds plan) (λ bytes. length bytes ≤ most_bytes Timing)
-    → number_of c ≡ 0 → Ends before between (Some (Round artery certificate plan)) c → IsReached d → Ends between now (Some (Hold artery plan)) d → d ≡ cause.Done
+    → number_of c ≡ 0 → Ends before between (ask.round artery certificate plan) c → IsReached d → Ends between now (ask.hold artery plan) d → d ≡ cause.Done
 
 -- ---- timing
 -- `timing` with status 0: the file that is put holds, where it is told, the text of the timing of the typed plan, whichever rules it breaks, and is read back; its bands and
@@ -248,7 +246,7 @@ pub record PutsTyped (before now : Outside) (artery plan timing : List ℕ) : Ty
 -- with status 3: one of the two files isn't read
 pub record StopsTyped (before now : Outside) (artery plan timing : List ℕ) (c : Cause) : Type 0 where
   pub lines : List ℕ
-  pub stops : StopsReading (shape (Some (TimingOf artery plan timing))).inputs 1 before.holds before.reads now.reads c lines
+  pub stops : StopsReading (input Description artery ∷ input TypedPlan plan ∷ []) 1 before.holds before.reads now.reads c lines
   pub kept : SameFiles before.holds now.holds
 
 -- or the plan has more or fewer numbers at this place than the artery has signals or links
@@ -270,11 +268,11 @@ pub record SaysTooFine (before now : Outside) (artery plan : List ℕ) (c : Caus
   pub description : Reads Description (before.holds artery) street
   pub text : Reads TypedPlan (before.holds plan) typed
   pub first : Refuses street typed (fault.TooFine ticks)
-  pub cause_is : c ≡ cause.Unmatched (half_end.TooFine ticks)
+  pub cause_is : c ≡ cause.TooFine ticks
   pub kept : SameFiles before.holds now.holds
 
 abbrev pub TimingSays : Type 0
-TimingSays = (before now : Outside) (artery plan timing : List ℕ) (c : Cause) → Ends before now (Some (TimingOf artery plan timing)) c
+TimingSays = (before now : Outside) (artery plan timing : List ℕ) (c : Cause) → Ends before now (ask.timing artery plan timing) c
     → (number_of c ≡ 0 → PutsTyped before now artery plan timing)
     × (number_of c ≡ 3 → StopsTyped before now artery plan timing c ⊎ SaysMiscounted before now artery plan c)
     × (number_of c ≡ 4 → ⊥)
@@ -296,22 +294,8 @@ pub record IsWorthNoMore (before now checked_before checked_now : Outside) (arte
 -- So wherever both have status 0 over the same description.
 abbrev pub TimingIsBounded : Type 0
 TimingIsBounded = (before now checked_before checked_now : Outside) (artery plan timing certificate : List ℕ) (c d : Cause) → IsSome (before.holds artery) → checked_before.holds artery ≡ before.holds artery
-    → Ends before now (Some (TimingOf artery plan timing)) c → number_of c ≡ 0 → Ends checked_before checked_now (Some (Check artery certificate)) d → number_of d ≡ 0
+    → Ends before now (ask.timing artery plan timing) c → number_of c ≡ 0 → Ends checked_before checked_now (ask.check artery certificate) d → number_of d ≡ 0
     → IsWorthNoMore before now checked_before checked_now artery plan timing certificate
-
--- a timing is put, the plan isn't of the artery, or it has too many ticks
-abbrev pub IsTypedEnd : Cause → Type 0
-IsTypedEnd cause.Done = Unit {0}
-IsTypedEnd (cause.Refused r) = Unit {0}
-IsTypedEnd (cause.Unmatched (half_end.TooFine ticks)) = Unit {0}
-IsTypedEnd c = ⊥
-
--- Where the files tell bytes that describe an artery and give a plan, and no read of them, no put of the timing and no write failed, the run ends so, or by want of memory.
-abbrev pub TimingIsComplete : Type 0
-TimingIsComplete = (before now : Outside) (artery plan timing : List ℕ) (a : Street) (p : Typed) (c : Cause)
-    → IsSome (before.holds artery) → IsSome (before.holds plan) → Reads Description (before.holds artery) a → Reads TypedPlan (before.holds plan) p
-    → ¬ Rose (before.reads artery) (now.reads artery) → ¬ Rose (before.reads plan) (now.reads plan) → ¬ Rose (before.puts timing) (now.puts timing) → ¬ Rose before.writes now.writes
-    → Ends before now (Some (TimingOf artery plan timing)) c → IsTypedEnd c ⊎ (c ≡ cause.Memory)
 
 -- ---- draw
 -- `draw` with status 0: the timing of the second file, good or not, has the number of signals of the artery of the first, and the file that is put holds, where it is told,
@@ -342,29 +326,14 @@ pub record SaysUntimed (before now : Outside) (artery timed : List ℕ) (c : Cau
   pub street : Street
   pub description : Reads Description (before.holds artery) street
   pub text : Reads Timed (before.holds timed) None
-  pub cause_is : c ≡ cause.Unplanned end.NoTimingGiven
+  pub cause_is : c ≡ cause.Untimed
   pub kept : SameFiles before.holds now.holds
 
 abbrev pub DrawSays : Type 0
-DrawSays = (before now : Outside) (artery timed picture : List ℕ) (title : Option (List ℕ)) (c : Cause) → Ends before now (Some (Draw artery timed picture title)) c
+DrawSays = (before now : Outside) (artery timed picture : List ℕ) (title : Option (List ℕ)) (c : Cause) → Ends before now (ask.draw artery timed picture title) c
     → (number_of c ≡ 0 → PutsPicture before now artery timed picture title)
     × (number_of c ≡ 4 → SaysUnshaped before now artery timed c)
     × (number_of c ≡ 10 → SaysUntimed before now artery timed c)
-
--- the timing is drawn, it has another number of signals, or there is none
-abbrev pub IsDrawingEnd : Cause → Type 0
-IsDrawingEnd cause.Done = Unit {0}
-IsDrawingEnd (cause.Fails rule.Shape) = Unit {0}
-IsDrawingEnd (cause.Unplanned end.NoTimingGiven) = Unit {0}
-IsDrawingEnd c = ⊥
-
--- Where the files tell bytes that describe an artery and are a timing or a certificate, and no read of them, no put of the picture and no write failed, the run ends so,
--- or by want of memory.
-abbrev pub DrawIsComplete : Type 0
-DrawIsComplete = (before now : Outside) (artery timed picture : List ℕ) (title : Option (List ℕ)) (a : Street) (o : Option TimingRecord) (c : Cause)
-    → IsSome (before.holds artery) → IsSome (before.holds timed) → Reads Description (before.holds artery) a → Reads Timed (before.holds timed) o
-    → ¬ Rose (before.reads artery) (now.reads artery) → ¬ Rose (before.reads timed) (now.reads timed) → ¬ Rose (before.puts picture) (now.puts picture) → ¬ Rose before.writes now.writes
-    → Ends before now (Some (Draw artery timed picture title)) c → IsDrawingEnd c ⊎ (c ≡ cause.Memory)
 
 -- ---- sweep
 -- what is found at a cycle, and what its record says of the street
@@ -384,5 +353,5 @@ pub record PutsTable (before now : Outside) (artery table : List ℕ) (limit : O
   pub told : Appends before.taken now.taken (rows_line (length words))
 
 abbrev pub SweepSays : Type 0
-SweepSays = (before now : Outside) (artery table : List ℕ) (limit : Option ℕ) (words : List (List ℕ)) (c : Cause) → Ends before now (Some (Sweep artery table limit words)) c
+SweepSays = (before now : Outside) (artery table : List ℕ) (limit : Option ℕ) (words : List (List ℕ)) (c : Cause) → Ends before now (ask.sweep artery table limit words) c
     → number_of c ≡ 0 → PutsTable before now artery table limit words

@@ -25,10 +25,13 @@ use Rattle.multi_band.specs.LinkEnough.{link_enough_of}
 use Rattle.cycle_sweep.specs.declared.row.SweepRow.{SweepRow}
 use Rattle.cycle_sweep.specs.declared.row.SweepRow.TheVariants as row
 use Rattle.maxband_run.specs.Outside.{Outside}
-use Rattle.run_inputs.specs.Command.{Request, Solve, Links, Trial, Sweep}
+use Rattle.run_laws.specs.Asked as ask
 use Rattle.run_commands.specs.Sought.{Sought, whole_bands, bands_of_links}
 use Rattle.run_commands.specs.Checked.{Checked, whole_checked, links_checked}
-use Rattle.maxband_run.specs.Run.{Ends}
+use Rattle.run_commands.specs.Words.{Request}
+use Rattle.run_commands.specs.declared.table.Usage.{Usage}
+use Rattle.run_commands.specs.declared.table.Usage.TheVariants as usage
+use Rattle.maxband_run.specs.Run.{Question, question, Ends}
 use Rattle.run_laws.specs.Laws.{PutsBound}
 use Rattle.run_laws.specs.PlanLaws.{PutsTable}
 use Rattle.run_inputs.specs.Status.{number_of, IsReached}
@@ -60,23 +63,26 @@ abbrev pub link_stops : SearchStops LinkRecord
 link_stops a limit timing bound stop = StopsFor (link_rules a) (link_enough_of a) (IsLinkSiteOf a) limit (link_incumbent_of a timing) bound stop
 
 -- a search with status 2: what it put, and why it stopped with that bound and that timing
-abbrev pub StopSays : (k : Sought) → Checked k → SearchStops k.Timing → (List ℕ → List ℕ → Option ℕ → Request) → Type 0
-StopSays k s stops asks = (before now : Outside) (artery certificate : List ℕ) (limit : Option ℕ) (c : Cause) → Ends before now (Some (asks artery certificate limit)) c
+abbrev pub StopSays : (k : Sought) → Checked k → SearchStops k.Timing → (List ℕ → List ℕ → Option ℕ → Question) → Type 0
+StopSays k s stops asks = (before now : Outside) (artery certificate : List ℕ) (limit : Option ℕ) (c : Cause) → Ends before now (asks artery certificate limit) c
     → number_of c ≡ 2 → (p : PutsBound k s before now artery certificate limit c) × stops p.street limit p.timing p.bound p.stop
 
 abbrev pub SolveStopSays : Type 0
-SolveStopSays = StopSays whole_bands whole_checked whole_stops Solve
+SolveStopSays = StopSays whole_bands whole_checked whole_stops ask.solve
 
 abbrev pub LinksStopSays : Type 0
-LinksStopSays = StopSays bands_of_links links_checked link_stops Links
+LinksStopSays = StopSays bands_of_links links_checked link_stops ask.links
 
 -- ---- searches without a limit
+abbrev pub Searches : Usage → Type 0
+Searches usage.Solve = Unit {0}
+Searches usage.Links = Unit {0}
+Searches usage.Trial = Unit {0}
+Searches usage.Sweep = Unit {0}
+Searches _ = ⊥
+
 abbrev pub IsUnlimited : Request → Type 0
-IsUnlimited (Solve artery certificate None) = Unit {0}
-IsUnlimited (Links artery certificate None) = Unit {0}
-IsUnlimited (Trial signals seed None) = Unit {0}
-IsUnlimited (Sweep artery table None words) = Unit {0}
-IsUnlimited _ = ⊥
+IsUnlimited r = Searches r.usage × (r.settings.limit ≡ None)
 
 -- a best timing, none, or a named number that left 128 bits; a fault, want of memory, or a description that isn't one of an artery: but no stop by work
 abbrev pub EndsOtherThanByWork : Cause → Type 0
@@ -97,18 +103,18 @@ IsOtherThanByWork (row.Searched cycle found) = (units : ℕ) → found.verdict �
 
 -- Where the words say `all`, no search is stopped by work, and neither is one of a table.
 pub record AllNeverStopsByWork : Type 0 where
-  pub ends : (before now : Outside) (asked : Request) (c : Cause) → IsUnlimited asked → Ends before now (Some asked) c → EndsOtherThanByWork c
+  pub ends : (before now : Outside) (asked : Request) (c : Cause) → IsUnlimited asked → Ends before now (question (Some asked)) c → EndsOtherThanByWork c
   pub rows : (before now : Outside) (artery table : List ℕ) (words : List (List ℕ)) (p : PutsTable before now artery table None words) → All IsOtherThanByWork p.rows
 
 -- ---- words
 -- Words that are none of the usages are told so, unless a fault or want of memory ends the run, and no others are: also where the files tell nothing.
 pub record WordsAreTold : Type 0 where
-  pub none : (before now : Outside) (c : Cause) → IsReached c → Ends before now None c → number_of c ≡ 5
-  pub only : (before now : Outside) (asked : Option Request) (c : Cause) → Ends before now asked c → number_of c ≡ 5 → asked ≡ None
+  pub none : (before now : Outside) (c : Cause) → IsReached c → Ends before now (question None) c → number_of c ≡ 5
+  pub only : (before now : Outside) (asked : Option Request) (c : Cause) → Ends before now (question asked) c → number_of c ≡ 5 → asked ≡ None
 
 -- ---- faults
 -- Over files and an output of which no count of failed calls rises no run ends by a fault.
 abbrev pub FaultsAreCounted : Type 0
 FaultsAreCounted = (before now : Outside) (asked : Option Request) (c : Cause)
     → ((name : List ℕ) → ¬ Rose (before.reads name) (now.reads name)) → ((name : List ℕ) → ¬ Rose (before.puts name) (now.puts name)) → ¬ Rose before.writes now.writes
-    → Ends before now asked c → (number_of c ≢ 6) × (number_of c ≢ 7)
+    → Ends before now (question asked) c → (number_of c ≢ 6) × (number_of c ≢ 7)

@@ -1,7 +1,7 @@
 //! The laws of plans, bands, pictures and tables.
 
-ghost use Rattle.run_laws.specs.PlanLaws.{BandsSay, HalfSays, RoundSays, RoundFromSays, TimingSays, TimingIsBounded, TimingIsComplete, DrawSays};
-ghost use Rattle.run_laws.specs.PlanLaws.{DrawIsComplete, SweepSays, PlanIsHeld};
+ghost use Rattle.run_laws.specs.PlanLaws.{BandsSay, HalfSays, RoundSays, RoundFromSays, TimingSays, TimingIsBounded, DrawSays};
+ghost use Rattle.run_laws.specs.PlanLaws.{SweepSays, PlanIsHeld};
 
 /// A law over the definitions: after status 0 of `bands` the widest bands on the timing's offsets were printed, and after 4 a rule
 /// fails that speaks of no band.
@@ -57,30 +57,12 @@ pub fn law_timing_is_bounded()
     certificate_checker::law_accepted_or_refused();
 }
 
-/// A law over the definitions: where the files of `timing` are a description of an artery and a typed plan, and no fault is counted, the
-/// timing is put, the plan isn't of the artery, it has too many ticks, or memory is wanting.
-pub fn law_timing_is_complete()
-    ensures { TimingIsComplete }
-{
-    description_reader::law_one_answer();
-    description_reader::law_one_typed();
-}
-
 /// A law over the definitions: after status 0 of `draw` the file that it put holds the picture of the timing of its second file, which has
 /// as many signals as the described artery, and the first rule that the timing breaks was told, where it breaks one; after 4 it has another
 /// number of signals, and after 10 the file is a certificate without a timing, and no file has changed.
 pub fn law_draw_says()
     ensures { DrawSays }
 {}
-
-/// A law over the definitions: where the description of `draw` is one of an artery, its second file is a timing or a certificate, and no
-/// fault is counted, the picture is put, the timing has another number of signals, the certificate has none, or memory is wanting.
-pub fn law_draw_is_complete()
-    ensures { DrawIsComplete }
-{
-    description_reader::law_one_answer();
-    description_reader::law_one_typed();
-}
 
 /// A law over the definitions: after status 0 of `sweep` the file that it put holds the table of its cycles, and each record says what
 /// holds of the street at its cycle.
