@@ -60,6 +60,7 @@ line_named usage.Show = record { more = behind usage.Show; is = refl }
 line_named usage.Make = record { more = behind usage.Make; is = refl }
 line_named usage.Trial = record { more = behind usage.Trial; is = refl }
 line_named usage.Sweep = record { more = behind usage.Sweep; is = refl }
+line_named usage.Sensitivity = record { more = behind usage.Sensitivity; is = refl }
 line_named usage.Help = record { more = behind usage.Help; is = refl }
 line_named usage.Version = record { more = behind usage.Version; is = refl }
 

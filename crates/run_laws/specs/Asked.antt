@@ -46,5 +46,8 @@ timing artery plan new = asked usage.TimingOf (artery ∷ plan ∷ []) (Some new
 abbrev pub draw : List ℕ → List ℕ → List ℕ → Option (List ℕ) → Question
 draw artery timed drawing title = asked usage.Draw (artery ∷ timed ∷ []) (Some drawing) (record unsaid { title = title })
 
+abbrev pub sensitivity : List ℕ → List ℕ → Option ℕ → Question
+sensitivity artery table limit = asked usage.Sensitivity (artery ∷ []) (Some table) (record unsaid { limit = limit })
+
 abbrev pub sweep : List ℕ → List ℕ → Option ℕ → List (List ℕ) → Question
 sweep artery table limit cycles = asked usage.Sweep (artery ∷ []) (Some table) (record unsaid { limit = limit; cycles = cycles })
