@@ -17,4 +17,4 @@ pub mod PlansSay
 pub mod TimingBounded
 pub mod Statuses
 pub mod Helping
-mod LimitsSay
+pub mod LimitsSay
