@@ -1,7 +1,7 @@
 -- Rows of more and more changes.
 use Rattle.std.proofs.Common.{◌≡◌, ℕ, ◌+◌, ◌<◌, List, [], ◌∷◌, ◌++◌, length, take, get_or, Option, sym, ◌∙◌, ap, subst}
-use Rattle.std.specs.List.{AllZip, flat_map}
-use Rattle.std.proofs.lemmas.List.{take_more, flat_map_more}
+use Rattle.std.specs.List.{AllZip}
+use Rattle.std.proofs.lemmas.List.{take_more}
 use Rattle.std.proofs.lemmas.Slice.Zip.{all_zipped_more}
 use Rattle.progression.specs.Street.{Street}
 use Rattle.street_changes.specs.declared.limits.Change.{Change}
@@ -17,8 +17,3 @@ pub rows_more : (a : Street) (limit : Option ℕ) (list : List Change) (i : ℕ)
     → AllZip (IsRow a limit) (take i list) rows → IsRow a limit change row → AllZip (IsRow a limit) (take (i + 1) list) now
 rows_more a limit list i change rows now row lt is e h k =
     rw (e, sym (one_more list i change lt is)) (all_zipped_more (IsRow a limit) (take i list) rows change row h k)
-
--- the pieces of one more element
-pub pieces_more : {X Y : Type 0} (piece : X → List Y) (xs : List X) (i : ℕ) (x : X) → i < length xs → x ≡ get_or xs i x
-    → flat_map piece (take (i + 1) xs) ≡ flat_map piece (take i xs) ++ piece x
-pieces_more piece xs i x lt is = sym (flat_map_more piece [] (take i xs) x ∙ ap (flat_map piece) (one_more xs i x lt is))

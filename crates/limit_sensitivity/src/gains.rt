@@ -1,7 +1,7 @@
 //! What a change gains.
 
-ghost use Rattle.std.specs.Prelude.{◌≡◌, ◌++◌, ◌≤◌, ◌^◌, pos, ◌≤ℤ◌, ◌<ℤ◌, IfSome, IfOk, OnOk};
-ghost use Rattle.rational_theory.specs.Rational.{neg_ℚ, ◌-ℚ◌, ◌*ℚ◌};
+ghost use Rattle.std.specs.Prelude.{◌≡◌, ◌++◌, ◌≤◌, ◌^◌, pos, ◌≤ℤ◌, ◌<ℤ◌, IfSome, OnOk};
+ghost use Rattle.rational_theory.specs.Rational.{neg_ℚ};
 ghost use Rattle.limit_sensitivity.specs.Gains.{if_short, difference, product, signed_spelling, exact_or_wide, decimal_or_wide};
 
 use narrow_fraction::{Frac, Memory};
@@ -47,7 +47,7 @@ pub(crate) fn product(left: Frac, right: Frac) -> Option<Frac>
 }
 
 /// A number below 0 without its sign.
-#[tactic(auto, using(crate::proofs::Fitting::above_zero, crate::proofs::Fitting::same_den))]
+#[tactic(auto, using(crate::proofs::Fitting::above_zero))]
 fn without_minus(value: Frac) -> Frac
     requires below { value.num <ℤ pos 0 }
     requires denominator { value.den ≤ 2 ^ 120 }

@@ -1,6 +1,6 @@
 //! The changes with a timing, and those that gain, greatest first.
 
-ghost use Rattle.std.specs.{Prelude.{◌≡◌, ◌++◌, [], ◌∷◌, ◌≤◌, ◌^◌, pos, ◌≤ℤ◌, All, length, IfOk, OnOk, IfSome}, List.{position, position_or_len}};
+ghost use Rattle.std.specs.{Prelude.{◌≡◌, ◌++◌, [], ◌∷◌, ◌≤◌, ◌^◌, pos, ◌≤ℤ◌, length, IfOk, OnOk, IfSome}, List.{position, position_or_len}};
 ghost use Rattle.limit_sensitivity.specs.Report.{is_less, timed_from, timed_of, all_timed, placed, with_one, ranked_onto, told};
 ghost use Rattle.limit_sensitivity.specs.Rows.{base_of, outcome_value};
 ghost use Rattle.branch_tree.specs.Certified.{value_of};

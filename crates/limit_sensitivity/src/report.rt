@@ -1,6 +1,6 @@
 //! The lines that are printed.
 
-ghost use Rattle.std.specs.{Prelude.{◌≡◌, ◌++◌, ◌≤◌, ◌^◌, pos, ◌≤ℤ◌, IfOk, OnOk, IfSome, Some}, List.{flat_map}, Fmt.{decimal}};
+ghost use Rattle.std.specs.{Prelude.{◌≡◌, ◌++◌, ◌≤◌, ◌^◌, pos, ◌≤ℤ◌, IfOk, OnOk, IfSome, Some}, List.{flat_map}};
 ghost use Rattle.limit_sensitivity.specs.Report.{seconds_of, amount_text, measure_text, after_space, timed_line, verdict_line, first_outcome, base_line, rows_line, first_lines, all_timed, told, sensitivity_lines};
 
 use crate::gains::{difference, if_short, product, push_decimal_or_wide};

@@ -2,7 +2,7 @@
 
 ghost use Rattle.std.specs.{Prelude.{◌≡◌, ◌++◌, [], ◌∷◌, IfOk, OnOk}, List.{AllZip}};
 ghost use Rattle.work_meter.specs.Work.{IsBelow};
-ghost use Rattle.street_changes.specs.Changed.{changed, IsChanged};
+ghost use Rattle.street_changes.specs.Changed.{changed};
 ghost use Rattle.limit_sensitivity.specs.Rows.{IsOutcome, IsEnd, IsRow, AreRows};
 
 use crate::row::{Outcome, SensitivityRow};
@@ -53,13 +53,16 @@ fn row_at(
     alloc: Global,
     artery: &Artery,
     limit: Option<u64>,
-    change: Change,
+    change: &Change,
 ) -> Result<SensitivityRow, Memory>
     requires { IsBelow 0 limit }
-    ensures { IfOk result (λ row. IsRow artery.now limit change row) }
+    ensures { IfOk result (λ row. IsRow artery.now limit change.now row) }
 {
-    let outcome = outcome_at(alloc, artery, limit, change)?;
-    Ok(SensitivityRow { change, outcome })
+    let outcome = outcome_at(alloc, artery, limit, *change)?;
+    Ok(SensitivityRow {
+        change: *change,
+        outcome,
+    })
 }
 
 fn push(rows: &mut Vec<SensitivityRow>, row: SensitivityRow) -> Result<(), Memory>
@@ -80,7 +83,7 @@ fn rows_of(
 {
     let mut rows = Vec::new(alloc);
     for change in list {
-        let row = row_at(alloc, artery, limit, *change)?;
+        let row = row_at(alloc, artery, limit, change)?;
         push(&mut rows, row)?;
     }
     Ok(rows)

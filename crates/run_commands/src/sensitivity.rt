@@ -1,6 +1,6 @@
 //! The command `sensitivity`.
 
-ghost use Rattle.std.specs.Prelude.{◌≡◌, IfOk, refl};
+ghost use Rattle.std.specs.Prelude.{IfOk, refl};
 ghost use Rattle.work_meter.specs.Work.{IsBelow};
 ghost use Rattle.run_inputs.specs.{Puts.{With, bytes_of}, Status.{IsOwnAnswer}};
 ghost use Rattle.run_commands.specs.{Sensitivity.{IsSensitivity}, Ends.{IsDone}};
