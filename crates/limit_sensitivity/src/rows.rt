@@ -1,7 +1,8 @@
 //! A search for each change.
 
-ghost use Rattle.std.specs.{Prelude.{◌≡◌, ◌++◌, [], ◌∷◌, IfOk, OnOk}, List.{AllZip}};
+ghost use Rattle.std.specs.{Prelude.{◌≡◌, ◌++◌, [], ◌∷◌, ◌<◌, length, get_or, IfOk, OnOk}, List.{AllZip}};
 ghost use Rattle.work_meter.specs.Work.{IsBelow};
+ghost use Rattle.street_changes.specs.declared.limits.Change.TheVariants.{AsItIs};
 ghost use Rattle.street_changes.specs.Changed.{changed};
 ghost use Rattle.limit_sensitivity.specs.Rows.{IsOutcome, IsEnd, IsRow, AreRows};
 
@@ -72,6 +73,22 @@ fn push(rows: &mut Vec<SensitivityRow>, row: SensitivityRow) -> Result<(), Memor
     Ok(())
 }
 
+/// The row of the change at this place of a list.
+fn row_of(
+    alloc: Global,
+    artery: &Artery,
+    limit: Option<u64>,
+    list: &[Change],
+    index: usize,
+) -> Result<SensitivityRow, Memory>
+    requires limit { IsBelow 0 limit }
+    requires index { index < length list.now }
+    ensures { IfOk result (λ row. IsRow artery.now limit (get_or list.now index AsItIs) row) }
+{
+    row_at(alloc, artery, limit, &list[index])
+}
+
+#[tactic(auto, using(crate::proofs::Matched::all_rows))]
 fn rows_of(
     alloc: Global,
     artery: &Artery,
@@ -82,8 +99,8 @@ fn rows_of(
     ensures { IfOk result (λ rows. AllZip (IsRow artery.now limit) list.now rows.items) }
 {
     let mut rows = Vec::new(alloc);
-    for change in list {
-        let row = row_at(alloc, artery, limit, change)?;
+    for index in 0..list.len() {
+        let row = row_of(alloc, artery, limit, list, index)?;
         push(&mut rows, row)?;
     }
     Ok(rows)

@@ -4,5 +4,5 @@ use Rattle.limit_sensitivity.specs.Rows.{IsRow}
 use Rattle.limit_sensitivity.proofs.rows.rows_of.Given as goal
 
 -- a row for each of the changes so far
-abbrev pub invariant-loop-change : goal.invariant-loop-change
-invariant-loop-change l = AllZip (IsRow l.artery l.limit) (take l.change-index l.list) l.rows.items
+abbrev pub invariant-loop-index : goal.invariant-loop-index
+invariant-loop-index l = AllZip (IsRow l.artery l.limit) (take l.index l.list) l.rows.items
