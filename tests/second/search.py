@@ -67,7 +67,16 @@ class Street:
     """The numbers of a description; signals and links count from 1, and parts of the cycle are fractions of it."""
 
     def __init__(self, text):
-        said = tomllib.loads(text)
+        self.read(tomllib.loads(text))
+
+    @classmethod
+    def of(cls, said):
+        """The street of a description that was read."""
+        street = cls.__new__(cls)
+        street.read(said)
+        return street
+
+    def read(self, said):
         artery, signals, links = said["artery"], dict(enumerate(said["signal"], 1)), dict(enumerate(said["link"], 1))
         self.signals, self.links = list(signals), list(links)
         self.columns = self.column_names()

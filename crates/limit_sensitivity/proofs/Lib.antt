@@ -1,3 +1,5 @@
+mod Fitting
 mod Matched
-mod Saying
+mod Places
 mod Ranked
+mod Saying

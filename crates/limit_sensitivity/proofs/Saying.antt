@@ -60,7 +60,7 @@ outcome_says a limit base c o h =
 end_says : (a : Street) (limit : Option ℕ) (base : Option ℚ) (c : Change) (end : Option Outcome) → IsEnd (changed a c) limit end
     → SaysEnd a limit base c end (change_fields a c ++ outcome_fields a base end)
 end_says a limit base c None h = (h, refl)
-end_says a limit base c (Some o) h = (h.0, outcome_says a limit base c o h.1)
+end_says a limit base c (Some o) h = let said = outcome_says a limit base c o h.1 in (h.0, said.0, said.1)
 
 pub rows_say : RowsSay
 rows_say a limit base c row h =

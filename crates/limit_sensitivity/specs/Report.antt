@@ -43,9 +43,13 @@ all_timed a rows = flat_map (λ row. timed_of a row.change row.outcome) rows
 abbrev pub placed : Timed → List Timed → List Timed
 placed x others = let place = position_or_len (λ y. is_less y.value x.value) others in take place others ++ x ∷ drop place others
 
+-- put where it belongs, if it gains
+abbrev pub with_one : ℚ → Timed → List Timed → List Timed
+with_one base x others = if is_less base x.value then placed x others else others
+
 abbrev pub ranked_onto : ℚ → List Timed → List Timed → List Timed
 ranked_onto base others [] = others
-ranked_onto base others (x ∷ xs) = ranked_onto base (if is_less base x.value then placed x others else others) xs
+ranked_onto base others (x ∷ xs) = ranked_onto base (with_one base x others) xs
 
 -- with no timing as the street is, all that have one, in their order
 abbrev pub told : Option ℚ → List Timed → List Timed
@@ -89,7 +93,9 @@ base_line (Some base) = codes "weighted " ++ (exact_spelling base ++ (codes " = 
 abbrev pub rows_line : ℕ → List ℕ
 rows_line n = codes "rows " ++ (decimal n ++ codes "\n")
 
+-- of the street as it is
+abbrev pub first_lines : Option ℚ → List SensitivityRow → List ℕ
+first_lines base rows = verdict_line (first_outcome rows) ++ (base_line base ++ rows_line (length rows))
+
 abbrev pub sensitivity_lines : Street → List SensitivityRow → List ℕ
-sensitivity_lines a rows =
-    let base = base_of a rows in
-    verdict_line (first_outcome rows) ++ (base_line base ++ (rows_line (length rows) ++ flat_map (timed_line a base) (told base (all_timed a rows))))
+sensitivity_lines a rows = let base = base_of a rows in first_lines base rows ++ flat_map (timed_line a base) (told base (all_timed a rows))

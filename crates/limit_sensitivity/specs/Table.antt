@@ -26,9 +26,17 @@ gain_fields (Some base) None = dash ∷ dash ∷ []
 gain_fields (Some base) (Some weighted) = exact_or_wide (difference weighted base) ∷ decimal_or_wide (difference weighted base) 6 ∷ []
 
 -- ---- records
+abbrev pub change_names : List (List ℕ)
+change_names = codes "change" ∷ codes "place" ∷ codes "name" ∷ []
+
+abbrev pub value_names : List (List ℕ)
+value_names = codes "verdict" ∷ codes "weighted" ∷ codes "weighted_d" ∷ []
+
+abbrev pub gain_names : List (List ℕ)
+gain_names = codes "gain" ∷ codes "gain_d" ∷ codes "bound" ∷ codes "cause" ∷ []
+
 abbrev pub header_fields : List (List ℕ)
-header_fields =
-    codes "change" ∷ codes "place" ∷ codes "name" ∷ codes "verdict" ∷ codes "weighted" ∷ codes "weighted_d" ∷ codes "gain" ∷ codes "gain_d" ∷ codes "bound" ∷ codes "cause" ∷ []
+header_fields = change_names ++ (value_names ++ gain_names)
 
 abbrev pub change_fields : Street → Change → List (List ℕ)
 change_fields a c = change_word c ∷ place_text c ∷ name_cell (name_text a c) ∷ []

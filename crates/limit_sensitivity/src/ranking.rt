@@ -1,7 +1,7 @@
 //! The changes with a timing, and those that gain, greatest first.
 
-ghost use Rattle.std.specs.{Prelude.{◌≡◌, ◌++◌, [], ◌∷◌, ◌≤◌, ◌^◌, pos, ◌≤ℤ◌, All, length, IfOk, OnOk, IfSome}, List.{position_or_len}};
-ghost use Rattle.limit_sensitivity.specs.Report.{is_less, timed_from, timed_of, all_timed, placed, ranked_onto, told};
+ghost use Rattle.std.specs.{Prelude.{◌≡◌, ◌++◌, [], ◌∷◌, ◌≤◌, ◌^◌, pos, ◌≤ℤ◌, length, IfOk, OnOk, IfSome}, List.{position, position_or_len}};
+ghost use Rattle.limit_sensitivity.specs.Report.{is_less, timed_from, timed_of, all_timed, placed, with_one, ranked_onto, told};
 ghost use Rattle.limit_sensitivity.specs.Rows.{base_of, outcome_value};
 ghost use Rattle.branch_tree.specs.Certified.{value_of};
 ghost use Rattle.progression.specs.Best.{weighted_band};
@@ -16,7 +16,7 @@ use time_space::{Timing, value};
 use timing_measures::cycle_seconds;
 
 /// A change with the timing that was found.
-#[derive(Clone, Copy, Drop)]
+#[derive(Drop)]
 pub struct Timed {
     pub change: Change,
     /// Its weighted band.
@@ -32,6 +32,16 @@ fn timed_by(artery: &Artery, change: Change, timing: &Timing) -> Timed
         change,
         value: value(artery, timing),
         cycle: cycle_seconds(artery, timing),
+    }
+}
+
+fn copied(timed: &Timed) -> Timed
+    ensures { result ≡ timed.now }
+{
+    Timed {
+        change: timed.change,
+        value: timed.value,
+        cycle: timed.cycle,
     }
 }
 
@@ -75,13 +85,20 @@ fn all_timed(alloc: Global, artery: &Artery, rows: &[SensitivityRow]) -> Result<
     Ok(list)
 }
 
-/// Where the first with less stands, or the length.
+/// Where the first with less stands.
+fn first_less(others: &[Timed], value: Frac) -> Option<usize>
+    ensures { result ≡ position (λ y. is_less y.value value) others.now }
+{
+    others.iter().position(|other| other.value < value)
+}
+
+/// The same, or the length where there is none.
+#[tactic(auto, using(crate::proofs::Places::place_or_len))]
 fn place_of(others: &[Timed], value: Frac) -> usize
     ensures place { result ≡ position_or_len (λ y. is_less y.value value) others.now }
     ensures within { result ≤ length others.now }
 {
-    let place = others.iter().position(|other| other.value < value);
-    place.unwrap_or(others.len())
+    first_less(others, value).unwrap_or(others.len())
 }
 
 /// Puts one before the first with less.
@@ -93,15 +110,24 @@ fn put(others: &mut Vec<Timed>, timed: Timed) -> Result<(), Memory>
     Ok(())
 }
 
+/// Puts one where it belongs, if it gains.
+fn put_gaining(others: &mut Vec<Timed>, base: Frac, timed: Timed) -> Result<(), Memory>
+    ensures { OnOk result (others.new.items ≡ with_one base timed others.old.items) }
+{
+    if base < timed.value {
+        put(others, timed)
+    } else {
+        Ok(())
+    }
+}
+
 /// Those that gain, greatest first.
-fn ranked(alloc: Global, base: Frac, all: &[Timed]) -> Result<Vec<Timed>, Memory>
-    ensures { IfOk result (λ list. list.items ≡ ranked_onto base [] all.now) }
+fn ranked(alloc: Global, base: &Frac, all: &[Timed]) -> Result<Vec<Timed>, Memory>
+    ensures { IfOk result (λ list. list.items ≡ ranked_onto base.now [] all.now) }
 {
     let mut list = Vec::new(alloc);
     for timed in all {
-        if base < timed.value {
-            put(&mut list, *timed)?;
-        }
+        put_gaining(&mut list, *base, copied(timed))?;
     }
     Ok(list)
 }
@@ -110,10 +136,10 @@ fn ranked(alloc: Global, base: Frac, all: &[Timed]) -> Result<Vec<Timed>, Memory
 pub(crate) fn told(
     alloc: Global,
     artery: &Artery,
-    base: Option<Frac>,
+    base: &Option<Frac>,
     rows: &[SensitivityRow],
 ) -> Result<Vec<Timed>, Memory>
-    ensures { IfOk result (λ list. list.items ≡ told base (all_timed artery.now rows.now)) }
+    ensures { IfOk result (λ list. list.items ≡ told base.now (all_timed artery.now rows.now)) }
 {
     let all = all_timed(alloc, artery, rows)?;
     match base {

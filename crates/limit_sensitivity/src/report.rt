@@ -1,7 +1,7 @@
 //! The lines that are printed.
 
-ghost use Rattle.std.specs.{Prelude.{◌≡◌, ◌++◌, ◌≤◌, ◌^◌, pos, ◌≤ℤ◌, IfOk, OnOk, IfSome, Some}, List.{flat_map}, Fmt.{decimal}};
-ghost use Rattle.limit_sensitivity.specs.Report.{seconds_of, amount_text, measure_text, after_space, timed_line, verdict_line, first_outcome, base_line, rows_line, sensitivity_lines};
+ghost use Rattle.std.specs.{Prelude.{◌≡◌, ◌++◌, ◌≤◌, ◌^◌, pos, ◌≤ℤ◌, IfOk, OnOk, IfSome, Some}, List.{flat_map}};
+ghost use Rattle.limit_sensitivity.specs.Report.{seconds_of, amount_text, measure_text, after_space, timed_line, verdict_line, first_outcome, base_line, rows_line, first_lines, all_timed, told, sensitivity_lines};
 
 use crate::gains::{difference, if_short, product, push_decimal_or_wide};
 use crate::ranking::{Timed, base_of, told};
@@ -14,38 +14,38 @@ use std::alloc::Global;
 use street_changes::{change_word, name_text, place_text};
 
 /// So many cycles in seconds.
-fn seconds_of(value: Option<Frac>, cycle: Frac) -> Option<Frac>
-    ensures value { result ≡ seconds_of value cycle }
+fn seconds_of(value: &Option<Frac>, cycle: Frac) -> Option<Frac>
+    ensures value { result ≡ seconds_of value.now cycle }
     ensures short { IfSome result (λ x. x.den ≤ 2 ^ 120) }
 {
     match value {
-        Some(value) => product(value, cycle),
+        Some(value) => product(*value, cycle),
         None => None,
     }
 }
 
 /// Writes an amount as a fraction of the cycle and in its seconds.
-fn push_amount(out: &mut Vec<u8>, value: Option<Frac>, cycle: Frac) -> Result<(), Memory>
-    requires { IfSome value (λ x. x.den ≤ 2 ^ 120) }
-    ensures { OnOk result (out.new.items ≡ out.old.items ++ amount_text value cycle) }
+fn push_amount(out: &mut Vec<u8>, value: &Option<Frac>, cycle: Frac) -> Result<(), Memory>
+    requires { IfSome value.now (λ x. x.den ≤ 2 ^ 120) }
+    ensures { OnOk result (out.new.items ≡ out.old.items ++ amount_text value.now cycle) }
 {
     push_decimal_or_wide(out, value, 4)?;
     push_text(out, " = ")?;
-    push_decimal_or_wide(out, seconds_of(value, cycle), 1)?;
+    push_decimal_or_wide(out, &seconds_of(value, cycle), 1)?;
     push_text(out, " s")
 }
 
-fn push_measure(out: &mut Vec<u8>, base: Option<Frac>, timed: &Timed) -> Result<(), Memory>
-    ensures { OnOk result (out.new.items ≡ out.old.items ++ measure_text base timed.now) }
+fn push_measure(out: &mut Vec<u8>, base: &Option<Frac>, timed: &Timed) -> Result<(), Memory>
+    ensures { OnOk result (out.new.items ≡ out.old.items ++ measure_text base.now timed.now) }
 {
     match base {
         Some(base) => {
             push_text(out, " gain ")?;
-            push_amount(out, difference(timed.value, base), timed.cycle)
+            push_amount(out, &difference(timed.value, *base), timed.cycle)
         }
         None => {
             push_text(out, " weighted ")?;
-            push_amount(out, if_short(timed.value), timed.cycle)
+            push_amount(out, &if_short(timed.value), timed.cycle)
         }
     }
 }
@@ -64,10 +64,10 @@ fn push_after_space(out: &mut Vec<u8>, name: &[u8]) -> Result<(), Memory>
 fn push_timed_line(
     out: &mut Vec<u8>,
     artery: &Artery,
-    base: Option<Frac>,
+    base: &Option<Frac>,
     timed: &Timed,
 ) -> Result<(), Memory>
-    ensures { OnOk result (out.new.items ≡ out.old.items ++ timed_line artery.now base timed.now) }
+    ensures { OnOk result (out.new.items ≡ out.old.items ++ timed_line artery.now base.now timed.now) }
 {
     let alloc = *out.allocator();
     let place = place_text(alloc, timed.change)?;
@@ -84,10 +84,10 @@ fn push_timed_line(
 fn push_timed_lines(
     out: &mut Vec<u8>,
     artery: &Artery,
-    base: Option<Frac>,
+    base: &Option<Frac>,
     list: &[Timed],
 ) -> Result<(), Memory>
-    ensures { OnOk result (out.new.items ≡ out.old.items ++ flat_map (timed_line artery.now base) list.now) }
+    ensures { OnOk result (out.new.items ≡ out.old.items ++ flat_map (timed_line artery.now base.now) list.now) }
 {
     for timed in list {
         push_timed_line(out, artery, base, timed)?;
@@ -133,13 +133,13 @@ fn push_value(out: &mut Vec<u8>, value: Frac) -> Result<(), Memory>
     push_text(out, "\n")
 }
 
-fn push_base(out: &mut Vec<u8>, base: Option<Frac>) -> Result<(), Memory>
-    requires least { IfSome base (λ x. pos 0 ≤ℤ x.num) }
-    requires denominator { IfSome base (λ x. x.den ≤ 2 ^ 120) }
-    ensures { OnOk result (out.new.items ≡ out.old.items ++ base_line base) }
+fn push_base(out: &mut Vec<u8>, base: &Option<Frac>) -> Result<(), Memory>
+    requires least { IfSome base.now (λ x. pos 0 ≤ℤ x.num) }
+    requires denominator { IfSome base.now (λ x. x.den ≤ 2 ^ 120) }
+    ensures { OnOk result (out.new.items ≡ out.old.items ++ base_line base.now) }
 {
     match base {
-        Some(base) => push_value(out, base),
+        Some(base) => push_value(out, *base),
         None => push_text(out, "no timing\n"),
     }
 }
@@ -150,6 +150,30 @@ fn push_rows_line(out: &mut Vec<u8>, rows: usize) -> Result<(), Memory>
     push_text(out, "rows ")?;
     push_number(out, rows as u128)?;
     push_text(out, "\n")
+}
+
+/// Writes the lines of the street as it is.
+fn push_first(out: &mut Vec<u8>, base: &Option<Frac>, rows: &[SensitivityRow]) -> Result<(), Memory>
+    requires least { IfSome base.now (λ x. pos 0 ≤ℤ x.num) }
+    requires denominator { IfSome base.now (λ x. x.den ≤ 2 ^ 120) }
+    ensures { OnOk result (out.new.items ≡ out.old.items ++ first_lines base.now rows.now) }
+{
+    push_first_verdict(out, rows)?;
+    push_base(out, base)?;
+    push_rows_line(out, rows.len())
+}
+
+/// Writes the lines of the changes that are told.
+fn push_told(
+    out: &mut Vec<u8>,
+    artery: &Artery,
+    base: &Option<Frac>,
+    rows: &[SensitivityRow],
+) -> Result<(), Memory>
+    ensures { OnOk result (out.new.items ≡ out.old.items ++ flat_map (timed_line artery.now base.now) (told base.now (all_timed artery.now rows.now))) }
+{
+    let list = told(*out.allocator(), artery, base, rows)?;
+    push_timed_lines(out, artery, base, list.as_slice())
 }
 
 /// The lines that are printed of the rows: the verdict of the street as it is, its weighted band, how many rows there are, and a line of each
@@ -164,11 +188,8 @@ pub fn sensitivity_lines(
     ensures { IfOk result (λ lines. lines.items ≡ sensitivity_lines artery.now rows.now) }
 {
     let base = base_of(artery, rows);
-    let list = told(alloc, artery, base, rows)?;
     let mut out = Vec::new(alloc);
-    push_first_verdict(&mut out, rows)?;
-    push_base(&mut out, base)?;
-    push_rows_line(&mut out, rows.len())?;
-    push_timed_lines(&mut out, artery, base, list.as_slice())?;
+    push_first(&mut out, &base, rows)?;
+    push_told(&mut out, artery, &base, rows)?;
     Ok(out)
 }

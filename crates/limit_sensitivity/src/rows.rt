@@ -1,8 +1,9 @@
 //! A search for each change.
 
-ghost use Rattle.std.specs.Prelude.{◌≡◌, ◌++◌, [], ◌∷◌, IfOk, OnOk};
+ghost use Rattle.std.specs.{Prelude.{◌≡◌, ◌++◌, [], ◌∷◌, ◌<◌, length, get_or, IfOk, OnOk}, List.{AllZip}};
 ghost use Rattle.work_meter.specs.Work.{IsBelow};
-ghost use Rattle.street_changes.specs.Changed.{changed, IsChanged};
+ghost use Rattle.street_changes.specs.declared.limits.Change.TheVariants.{AsItIs};
+ghost use Rattle.street_changes.specs.Changed.{changed};
 ghost use Rattle.limit_sensitivity.specs.Rows.{IsOutcome, IsEnd, IsRow, AreRows};
 
 use crate::row::{Outcome, SensitivityRow};
@@ -53,13 +54,16 @@ fn row_at(
     alloc: Global,
     artery: &Artery,
     limit: Option<u64>,
-    change: Change,
+    change: &Change,
 ) -> Result<SensitivityRow, Memory>
     requires { IsBelow 0 limit }
-    ensures { IfOk result (λ row. IsRow artery.now limit change row) }
+    ensures { IfOk result (λ row. IsRow artery.now limit change.now row) }
 {
-    let outcome = outcome_at(alloc, artery, limit, change)?;
-    Ok(SensitivityRow { change, outcome })
+    let outcome = outcome_at(alloc, artery, limit, *change)?;
+    Ok(SensitivityRow {
+        change: *change,
+        outcome,
+    })
 }
 
 fn push(rows: &mut Vec<SensitivityRow>, row: SensitivityRow) -> Result<(), Memory>
@@ -67,6 +71,39 @@ fn push(rows: &mut Vec<SensitivityRow>, row: SensitivityRow) -> Result<(), Memor
 {
     rows.push(row)?;
     Ok(())
+}
+
+/// The row of the change at this place of a list.
+fn row_of(
+    alloc: Global,
+    artery: &Artery,
+    limit: Option<u64>,
+    list: &[Change],
+    index: usize,
+) -> Result<SensitivityRow, Memory>
+    requires limit { IsBelow 0 limit }
+    requires index { index < length list.now }
+    ensures { IfOk result (λ row. IsRow artery.now limit (get_or list.now index AsItIs) row) }
+{
+    row_at(alloc, artery, limit, &list[index])
+}
+
+#[tactic(auto, using(crate::proofs::Matched::all_rows))]
+fn rows_of(
+    alloc: Global,
+    artery: &Artery,
+    limit: Option<u64>,
+    list: &[Change],
+) -> Result<Vec<SensitivityRow>, Memory>
+    requires { IsBelow 0 limit }
+    ensures { IfOk result (λ rows. AllZip (IsRow artery.now limit) list.now rows.items) }
+{
+    let mut rows = Vec::new(alloc);
+    for index in 0..list.len() {
+        let row = row_of(alloc, artery, limit, list, index)?;
+        push(&mut rows, row)?;
+    }
+    Ok(rows)
 }
 
 /// A row for each of the street's changes, the first for none: what a search of the street with the change finds, whose certificate was
@@ -82,10 +119,5 @@ pub fn sensitivity_rows(
     ensures { IfOk result (λ rows. AreRows artery.now limit rows.items) }
 {
     let list = changes(alloc, artery)?;
-    let mut rows = Vec::new(alloc);
-    for change in list.as_slice() {
-        let row = row_at(alloc, artery, limit, *change)?;
-        push(&mut rows, row)?;
-    }
-    Ok(rows)
+    rows_of(alloc, artery, limit, list.as_slice())
 }

@@ -1,8 +1,8 @@
 //! The table of comma-separated values.
 
 ghost use Rattle.std.specs.{Prelude.{◌≡◌, ◌++◌, ◌∷◌, [], ◌≤◌, ◌^◌, Some, None, IfOk, OnOk, IfSome}, List.{flat_map}};
-ghost use Rattle.cycle_sweep.specs.Table.{dash, number_text};
-ghost use Rattle.limit_sensitivity.specs.Table.{decimal_text, gain_fields, header_fields, change_fields, told_fields, outcome_fields, row_fields, record_text, sensitivity_text};
+ghost use Rattle.cycle_sweep.specs.Table.{dash, number_text, bound_of};
+ghost use Rattle.limit_sensitivity.specs.Table.{decimal_text, gain_fields, change_names, value_names, gain_names, header_fields, change_fields, told_fields, outcome_fields, row_fields, record_text, sensitivity_text};
 
 use crate::gains::{difference, push_decimal_or_wide, push_exact_or_wide, push_signed};
 use crate::ranking::{base_of, timing_value};
@@ -15,19 +15,19 @@ use std::alloc::Global;
 use street_changes::{Change, change_word, name_text, place_text};
 use table_text::{Record, push_record};
 
-fn push_decimal_text(out: &mut Vec<u8>, value: Option<Frac>) -> Result<(), Memory>
-    requires { IfSome value (λ x. x.den ≤ 2 ^ 120) }
-    ensures { OnOk result (out.new.items ≡ out.old.items ++ decimal_text value) }
+fn push_decimal_text(out: &mut Vec<u8>, value: &Option<Frac>) -> Result<(), Memory>
+    requires { IfSome value.now (λ x. x.den ≤ 2 ^ 120) }
+    ensures { OnOk result (out.new.items ≡ out.old.items ++ decimal_text value.now) }
 {
     match value {
-        Some(value) => push_signed(out, value, 6),
+        Some(value) => push_signed(out, *value, 6),
         None => push_text(out, "-"),
     }
 }
 
-fn decimal_text(alloc: Global, value: Option<Frac>) -> Result<Vec<u8>, Memory>
-    requires { IfSome value (λ x. x.den ≤ 2 ^ 120) }
-    ensures { IfOk result (λ text. text.items ≡ decimal_text value) }
+fn decimal_text(alloc: Global, value: &Option<Frac>) -> Result<Vec<u8>, Memory>
+    requires { IfSome value.now (λ x. x.den ≤ 2 ^ 120) }
+    ensures { IfOk result (λ text. text.items ≡ decimal_text value.now) }
 {
     let mut text = Vec::new(alloc);
     push_decimal_text(&mut text, value)?;
@@ -53,9 +53,9 @@ fn push_difference(
 {
     let gain = difference(weighted, base);
     let mut exact = Vec::new(alloc);
-    push_exact_or_wide(&mut exact, gain)?;
+    push_exact_or_wide(&mut exact, &gain)?;
     let mut decimal = Vec::new(alloc);
-    push_decimal_or_wide(&mut decimal, gain, 6)?;
+    push_decimal_or_wide(&mut decimal, &gain, 6)?;
     record.push(exact.as_slice())?;
     record.push(decimal.as_slice())
 }
@@ -64,24 +64,24 @@ fn push_difference(
 fn push_gain(
     record: &mut Record,
     alloc: Global,
-    base: Option<Frac>,
-    weighted: Option<Frac>,
+    base: &Option<Frac>,
+    weighted: &Option<Frac>,
 ) -> Result<(), Memory>
-    ensures { OnOk result (record.new ≡ record.old ++ gain_fields base weighted) }
+    ensures { OnOk result (record.new ≡ record.old ++ gain_fields base.now weighted.now) }
 {
     match (base, weighted) {
-        (Some(base), Some(weighted)) => push_difference(record, alloc, base, weighted),
+        (Some(base), Some(weighted)) => push_difference(record, alloc, *base, *weighted),
         (Some(_), None) => push_no_gain(record),
         (None, _) => push_no_gain(record),
     }
 }
 
 /// Adds a number, and the same as a decimal.
-fn push_number(record: &mut Record, alloc: Global, number: Option<Frac>) -> Result<(), Memory>
-    requires { IfSome number (λ x. x.den ≤ 2 ^ 120) }
-    ensures { OnOk result (record.new ≡ record.old ++ number_text number ∷ decimal_text number ∷ []) }
+fn push_number(record: &mut Record, alloc: Global, number: &Option<Frac>) -> Result<(), Memory>
+    requires { IfSome number.now (λ x. x.den ≤ 2 ^ 120) }
+    ensures { OnOk result (record.new ≡ record.old ++ number_text number.now ∷ decimal_text number.now ∷ []) }
 {
-    let exact = number_text(alloc, number)?;
+    let exact = number_text(alloc, *number)?;
     let decimal = decimal_text(alloc, number)?;
     record.push(exact.as_slice())?;
     record.push(decimal.as_slice())
@@ -105,14 +105,14 @@ fn push_end(
 fn push_told(
     record: &mut Record,
     alloc: Global,
-    base: Option<Frac>,
+    base: &Option<Frac>,
     verdict: &str,
-    weighted: Option<Frac>,
+    weighted: &Option<Frac>,
     bound: Option<Frac>,
     cause: &str,
 ) -> Result<(), Memory>
-    requires { IfSome weighted (λ x. x.den ≤ 2 ^ 120) }
-    ensures { OnOk result (record.new ≡ record.old ++ told_fields base verdict.now weighted bound cause.now) }
+    requires { IfSome weighted.now (λ x. x.den ≤ 2 ^ 120) }
+    ensures { OnOk result (record.new ≡ record.old ++ told_fields base.now verdict.now weighted.now bound cause.now) }
 {
     record.push(verdict.as_bytes())?;
     push_number(record, alloc, weighted)?;
@@ -120,34 +120,41 @@ fn push_told(
     push_end(record, alloc, bound, cause)
 }
 
+/// What no weighted band exceeds.
+fn bound_in(outcome: &Outcome, weighted: &Option<Frac>) -> Option<Frac>
+    ensures { result ≡ bound_of outcome.now.verdict outcome.now.bound weighted.now }
+{
+    bound_of(&outcome.verdict, outcome.bound, *weighted)
+}
+
 fn push_outcome(
     record: &mut Record,
     alloc: Global,
     artery: &Artery,
-    base: Option<Frac>,
+    base: &Option<Frac>,
     outcome: &Outcome,
 ) -> Result<(), Memory>
-    ensures { OnOk result (record.new ≡ record.old ++ outcome_fields artery.now base (Some outcome.now)) }
+    ensures { OnOk result (record.new ≡ record.old ++ outcome_fields artery.now base.now (Some outcome.now)) }
 {
     let weighted = timing_value(artery, &outcome.timing);
-    let bound = bound_of(&outcome.verdict, outcome.bound, weighted);
+    let bound = bound_in(outcome, &weighted);
     let verdict = verdict_word(&outcome.verdict);
     let cause = cause_word(&outcome.verdict);
-    push_told(record, alloc, base, verdict, weighted, bound, cause)
+    push_told(record, alloc, base, verdict, &weighted, bound, cause)
 }
 
 fn push_found(
     record: &mut Record,
     alloc: Global,
     artery: &Artery,
-    base: Option<Frac>,
+    base: &Option<Frac>,
     outcome: &Option<Outcome>,
 ) -> Result<(), Memory>
-    ensures { OnOk result (record.new ≡ record.old ++ outcome_fields artery.now base outcome.now) }
+    ensures { OnOk result (record.new ≡ record.old ++ outcome_fields artery.now base.now outcome.now) }
 {
     match outcome {
         Some(outcome) => push_outcome(record, alloc, artery, base, outcome),
-        None => push_told(record, alloc, base, "outside", None, None, "-"),
+        None => push_told(record, alloc, base, "outside", &None, None, "-"),
     }
 }
 
@@ -171,10 +178,10 @@ fn push_change(
 fn push_row(
     table: &mut Vec<u8>,
     artery: &Artery,
-    base: Option<Frac>,
+    base: &Option<Frac>,
     row: &SensitivityRow,
 ) -> Result<(), Memory>
-    ensures { OnOk result (table.new.items ≡ table.old.items ++ record_text (row_fields artery.now base row.now)) }
+    ensures { OnOk result (table.new.items ≡ table.old.items ++ record_text (row_fields artery.now base.now row.now)) }
 {
     let alloc = *table.allocator();
     let mut record = Record::new(alloc);
@@ -183,30 +190,48 @@ fn push_row(
     push_record(table, &record)
 }
 
+fn push_change_names(record: &mut Record) -> Result<(), Memory>
+    ensures { OnOk result (record.new ≡ record.old ++ change_names) }
+{
+    record.push("change".as_bytes())?;
+    record.push("place".as_bytes())?;
+    record.push("name".as_bytes())
+}
+
+fn push_value_names(record: &mut Record) -> Result<(), Memory>
+    ensures { OnOk result (record.new ≡ record.old ++ value_names) }
+{
+    record.push("verdict".as_bytes())?;
+    record.push("weighted".as_bytes())?;
+    record.push("weighted_d".as_bytes())
+}
+
+fn push_gain_names(record: &mut Record) -> Result<(), Memory>
+    ensures { OnOk result (record.new ≡ record.old ++ gain_names) }
+{
+    record.push("gain".as_bytes())?;
+    record.push("gain_d".as_bytes())?;
+    record.push("bound".as_bytes())?;
+    record.push("cause".as_bytes())
+}
+
 fn push_header(table: &mut Vec<u8>) -> Result<(), Memory>
     ensures { OnOk result (table.new.items ≡ table.old.items ++ record_text header_fields) }
 {
     let mut record = Record::new(*table.allocator());
-    record.push("change".as_bytes())?;
-    record.push("place".as_bytes())?;
-    record.push("name".as_bytes())?;
-    record.push("verdict".as_bytes())?;
-    record.push("weighted".as_bytes())?;
-    record.push("weighted_d".as_bytes())?;
-    record.push("gain".as_bytes())?;
-    record.push("gain_d".as_bytes())?;
-    record.push("bound".as_bytes())?;
-    record.push("cause".as_bytes())?;
+    push_change_names(&mut record)?;
+    push_value_names(&mut record)?;
+    push_gain_names(&mut record)?;
     push_record(table, &record)
 }
 
 fn push_rows(
     table: &mut Vec<u8>,
     artery: &Artery,
-    base: Option<Frac>,
+    base: &Option<Frac>,
     rows: &[SensitivityRow],
 ) -> Result<(), Memory>
-    ensures { OnOk result (table.new.items ≡ table.old.items ++ flat_map (λ row. record_text (row_fields artery.now base row)) rows.now) }
+    ensures { OnOk result (table.new.items ≡ table.old.items ++ flat_map (λ row. record_text (row_fields artery.now base.now row)) rows.now) }
 {
     for row in rows {
         push_row(table, artery, base, row)?;
@@ -229,6 +254,7 @@ pub fn sensitivity_table(
 {
     let mut table = Vec::new(alloc);
     push_header(&mut table)?;
-    push_rows(&mut table, artery, base_of(artery, rows), rows)?;
+    let base = base_of(artery, rows);
+    push_rows(&mut table, artery, &base, rows)?;
     Ok(table)
 }

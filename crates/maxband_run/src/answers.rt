@@ -19,6 +19,7 @@ use run_commands::make::Make;
 use run_commands::narrow::{Narrow, Widen};
 use run_commands::renew::Renew;
 use run_commands::round::{Round, RoundFrom};
+use run_commands::sensitivity::Sensitivity;
 use run_commands::sheet::Sheet;
 use run_commands::show::Show;
 use run_commands::solve::Solve;
@@ -94,6 +95,7 @@ fn answer_by<F: Files>(
         Usage::Make => answer_of::<Make, F>(alloc, request, files),
         Usage::Trial => answer_of::<Trial, F>(alloc, request, files),
         Usage::Sweep => answer_of::<Sweep, F>(alloc, request, files),
+        Usage::Sensitivity => answer_of::<Sensitivity, F>(alloc, request, files),
         Usage::Help => answer_of::<Help, F>(alloc, request, files),
         Usage::Version => answer_of::<Version, F>(alloc, request, files),
     }

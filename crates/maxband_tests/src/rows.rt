@@ -8,7 +8,7 @@ use std::test::Fail;
 
 /// In the order of the help: the word, what the files are read as, `NEW` where the next word names a file that may be put, the words behind, and
 /// `*` where any of several best answers may be told.
-static ROWS: [&str; 21] = [
+static ROWS: [&str; 22] = [
     "solve STREET NEW [WORK] *",
     "check STREET CERT",
     "bands STREET TIMING",
@@ -28,6 +28,7 @@ static ROWS: [&str; 21] = [
     "make SIGNALS SEED",
     "trial SIGNALS SEED WORK *",
     "sweep STREET NEW WORK CYCLE ..",
+    "sensitivity STREET NEW WORK *",
     "--help [WORD]",
     "--version",
 ];

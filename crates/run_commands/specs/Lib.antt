@@ -25,6 +25,7 @@ pub mod Pages
 pub mod Help
 pub mod Trial
 pub mod Sweep
+pub mod Sensitivity
 pub mod Ends
 pub mod Table
 pub mod Words

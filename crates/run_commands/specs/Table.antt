@@ -26,11 +26,12 @@ use Rattle.run_commands.specs.Narrow.{IsMove}
 use Rattle.run_commands.specs.Make.{Makes}
 use Rattle.run_commands.specs.Trial.{IsTrial}
 use Rattle.run_commands.specs.Sweep.{IsSweep}
+use Rattle.run_commands.specs.Sensitivity.{IsSensitivity}
 use Rattle.run_commands.specs.Ends.{IsDone, IsVerdict, IsTestEnd, IsCheckEnd, IsLinkCheckEnd, IsRoundEnd, IsRoundFromEnd, IsHalfEnd, IsTypedEnd, IsDrawingEnd}
 use Rattle.run_commands.specs.declared.table.Usage.{Usage}
-use Rattle.run_commands.specs.declared.table.Usage.TheVariants.{Solve, Check, Bands, Round, RoundFrom, Half, TimingOf, Draw, Sheet, Renew, Links, CheckLinks, Hold, Show, Narrow, Widen, Make, Trial, Sweep, Help, Version}
-use Rattle.run_commands.specs.declared.table.TheConstants.{SOLVE, CHECK, BANDS, ROUND, ROUND_FROM, HALF, TIMING_OF, DRAW, SHEET, RENEW, LINKS, CHECK_LINKS, HOLD, SHOW, NARROW, WIDEN, MAKE, TRIAL, SWEEP, HELP, VERSION, USAGES}
-use Rattle.run_commands.specs.declared.table.TheConstants.{SOLVE_PAGE, CHECK_PAGE, BANDS_PAGE, ROUND_PAGE, ROUND_FROM_PAGE, HALF_PAGE, TIMING_OF_PAGE, DRAW_PAGE, SHEET_PAGE, RENEW_PAGE, LINKS_PAGE, CHECK_LINKS_PAGE, HOLD_PAGE, SHOW_PAGE, NARROW_PAGE, WIDEN_PAGE, MAKE_PAGE, TRIAL_PAGE, SWEEP_PAGE, HELP_PAGE, VERSION_PAGE}
+use Rattle.run_commands.specs.declared.table.Usage.TheVariants.{Solve, Check, Bands, Round, RoundFrom, Half, TimingOf, Draw, Sheet, Renew, Links, CheckLinks, Hold, Show, Narrow, Widen, Make, Trial, Sweep, Sensitivity, Help, Version}
+use Rattle.run_commands.specs.declared.table.TheConstants.{SOLVE, CHECK, BANDS, ROUND, ROUND_FROM, HALF, TIMING_OF, DRAW, SHEET, RENEW, LINKS, CHECK_LINKS, HOLD, SHOW, NARROW, WIDEN, MAKE, TRIAL, SWEEP, SENSITIVITY, HELP, VERSION, USAGES}
+use Rattle.run_commands.specs.declared.table.TheConstants.{SOLVE_PAGE, CHECK_PAGE, BANDS_PAGE, ROUND_PAGE, ROUND_FROM_PAGE, HALF_PAGE, TIMING_OF_PAGE, DRAW_PAGE, SHEET_PAGE, RENEW_PAGE, LINKS_PAGE, CHECK_LINKS_PAGE, HOLD_PAGE, SHOW_PAGE, NARROW_PAGE, WIDEN_PAGE, MAKE_PAGE, TRIAL_PAGE, SWEEP_PAGE, SENSITIVITY_PAGE, HELP_PAGE, VERSION_PAGE}
 
 abbrev pub row : Usage → Row
 row Solve = row_of SOLVE
@@ -52,6 +53,7 @@ row Widen = row_of WIDEN
 row Make = row_of MAKE
 row Trial = row_of TRIAL
 row Sweep = row_of SWEEP
+row Sensitivity = row_of SENSITIVITY
 row Help = row_of HELP
 row Version = row_of VERSION
 
@@ -75,6 +77,7 @@ page Widen = page_of WIDEN_PAGE
 page Make = page_of MAKE_PAGE
 page Trial = page_of TRIAL_PAGE
 page Sweep = page_of SWEEP_PAGE
+page Sensitivity = page_of SENSITIVITY_PAGE
 page Help = page_of HELP_PAGE
 page Version = page_of VERSION_PAGE
 
@@ -113,6 +116,7 @@ Finds Widen v s c lines put = With (IsMove Outwards v.0 c lines) put
 Finds Make v s c lines put = Makes s.signals s.seed c lines
 Finds Trial v s c lines put = IsTrial s.signals s.seed s.limit c lines
 Finds Sweep v s c lines put = With (IsSweep v.0 s.limit s.cycles c lines) put
+Finds Sensitivity v s c lines put = With (IsSensitivity v.0 s.limit c lines) put
 Finds Help v s c lines put = HelpFinds line_of lines_of USAGES s.about c lines
 Finds Version v s c lines put = VersionFinds c lines
 
@@ -137,6 +141,7 @@ IsOwnEnd Widen c = IsDone c
 IsOwnEnd Make c = IsDone c
 IsOwnEnd Trial c = IsVerdict c
 IsOwnEnd Sweep c = IsDone c
+IsOwnEnd Sensitivity c = IsDone c
 IsOwnEnd Help c = IsDone c
 IsOwnEnd Version c = IsDone c
 

@@ -32,6 +32,7 @@
 //! - `sweep` (`specs/Sweep.antt`) puts the table of `cycle_sweep` of just the cycles that the words spell, and always ends with
 //!   `Done`; it keeps the words of the cycles, which are read as numbers when the street is there. `renew` puts the second text of
 //!   the certificate that it read.
+//! - `sensitivity` (`specs/Sensitivity.antt`) puts the table of `limit_sensitivity` and tells its lines, and always ends with `Done`.
 #![tactic(auto)]
 
 pub mod bands;
@@ -53,6 +54,7 @@ pub mod renew;
 mod request;
 pub mod round;
 mod searching;
+pub mod sensitivity;
 mod settings;
 pub mod sheet;
 pub mod show;

@@ -48,12 +48,13 @@ pub enum Usage {
     Make,
     Trial,
     Sweep,
+    Sensitivity,
     Help,
     Version,
 }
 
 /// In the order of the help.
-pub const USAGES: [Usage; 21] = [
+pub const USAGES: [Usage; 22] = [
     Usage::Solve,
     Usage::Check,
     Usage::Bands,
@@ -73,6 +74,7 @@ pub const USAGES: [Usage; 21] = [
     Usage::Make,
     Usage::Trial,
     Usage::Sweep,
+    Usage::Sensitivity,
     Usage::Help,
     Usage::Version,
 ];
@@ -474,6 +476,25 @@ maxband sweep examples/near.toml near-cycles.csv all 100
 ",
 );
 
+pub const SENSITIVITY: Parts = (
+    "sensitivity",
+    &[Reader::Description],
+    true,
+    &[Setting::Limit],
+    true,
+    "let out one limit at a time, search, and put a table",
+    "TABLE",
+);
+
+pub const SENSITIVITY_PAGE: PageParts = (
+    "comma-separated values, a header and a record for the street as it is and for each change",
+    "0 verdict V, weighted X = D or no timing, rows N, and a line of each change with a gain: whatever the verdicts are
+",
+    "maxband sensitivity examples/market.toml market-limits.csv 100000
+maxband sensitivity examples/near.toml near-limits.csv all
+",
+);
+
 pub const HELP: Parts = (
     "--help",
     &[],
@@ -537,6 +558,7 @@ impl Usage {
             Usage::Make => MAKE,
             Usage::Trial => TRIAL,
             Usage::Sweep => SWEEP,
+            Usage::Sensitivity => SENSITIVITY,
             Usage::Help => HELP,
             Usage::Version => VERSION,
         };
@@ -575,6 +597,7 @@ impl Usage {
             Usage::Make => MAKE_PAGE,
             Usage::Trial => TRIAL_PAGE,
             Usage::Sweep => SWEEP_PAGE,
+            Usage::Sensitivity => SENSITIVITY_PAGE,
             Usage::Help => HELP_PAGE,
             Usage::Version => VERSION_PAGE,
         };

@@ -18,3 +18,4 @@ pub mod PlansSay
 pub mod TimingBounded
 pub mod Statuses
 pub mod Helping
+pub mod LimitsSay

@@ -406,6 +406,7 @@ module _ (one_text : OneText) (one_first : OneFirst) (rules : FailsRulesOut) (ap
   finds_once usage.Widen n output v c d x y s t h k = alike usage.Widen output c d x y s t (moved_once one_text Outwards v.0 c d x y s t h k)
   finds_once usage.Make n output v c d x y s t h k = told_once usage.Make c d x y s t (show_once one_text (made_street n.signals n.seed) c d x y h k)
   finds_once usage.Trial n output v c d x y s t h k = (verdict_cause c h.found.verdict h.cause_is, verdict_cause d k.found.verdict k.cause_is)
+  finds_once usage.Sensitivity n output v c d x y s t h k = inr (subst IsVerdict (sym h.2.cause_is) tt, subst IsVerdict (sym k.2.cause_is) tt)
   finds_once usage.Sweep n output v c d x y s t h k =
       record { cause = h.2.cause_is ∙ sym k.2.cause_is; lines = h.2.lines_are ∙ sym k.2.lines_are; put = name_alike output s t h.0 k.0 h.1 k.1 }
 

@@ -63,6 +63,7 @@ stops_end : (u : Usage) → Searches u → (names : List (List ℕ)) (held : Lis
 stops_end usage.Solve s names held before after c lines h = stop_end names held before after c lines h
 stops_end usage.Links s names held before after c lines h = stop_end names held before after c lines h
 stops_end usage.Sweep s names held before after c lines h = stop_end names held before after c lines h
+stops_end usage.Sensitivity s names held before after c lines h = stop_end names held before after c lines h
 stops_end usage.Trial s names held before after c lines h = absurd h
 stops_end u s names held before after c lines h = absurd s
 
@@ -75,6 +76,7 @@ finds_end usage.Trial s v n e c lines put h =
     let enough = enough_of (made_street n.signals n.seed) in
     found_end enough c h.found.verdict h.cause_is (no_limit enough n.limit h.found.verdict e h.searched.enough)
 finds_end usage.Sweep s v n e c lines put h = subst EndsOtherThanByWork (sym h.2.cause_is) tt
+finds_end usage.Sensitivity s v n e c lines put h = subst EndsOtherThanByWork (sym h.2.cause_is) tt
 finds_end u s v n e c lines put h = absurd s
 
 answer_end : (r : Request) → IsUnlimited r → (held : List ℕ → Option (List ℕ)) (before after : List ℕ → ℕ) (c : Cause) (lines : List ℕ) (put : Option NamedBytes)

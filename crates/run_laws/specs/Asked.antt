@@ -56,5 +56,8 @@ draw title artery timed drawing = asked usage.Draw (artery ∷ timed ∷ []) (So
 abbrev pub sheet : Reference → List ℕ → List ℕ → List ℕ → Question
 sheet reference artery timed table = asked usage.Sheet (artery ∷ timed ∷ []) (Some table) (record unsaid { reference = reference })
 
+abbrev pub sensitivity : List ℕ → List ℕ → Option ℕ → Question
+sensitivity artery table limit = asked usage.Sensitivity (artery ∷ []) (Some table) (record unsaid { limit = limit })
+
 abbrev pub sweep : List ℕ → List ℕ → Option ℕ → List (List ℕ) → Question
 sweep artery table limit cycles = asked usage.Sweep (artery ∷ []) (Some table) (record unsaid { limit = limit; cycles = cycles })

@@ -3,3 +3,4 @@ pub mod Laws
 pub mod PlanLaws
 pub mod StopLaws
 pub mod EndLaws
+pub mod LimitLaws

@@ -79,6 +79,7 @@ Searches usage.Solve = Unit {0}
 Searches usage.Links = Unit {0}
 Searches usage.Trial = Unit {0}
 Searches usage.Sweep = Unit {0}
+Searches usage.Sensitivity = Unit {0}
 Searches _ = ⊥
 
 abbrev pub IsUnlimited : Request → Type 0

@@ -11,7 +11,7 @@
 //!   changes no file, and `law_put_is_accepted` that `check` accepts what `solve` put.
 //! - `ends` (`specs/EndLaws.antt`): `law_runs_are_complete`: with which causes each command ends where its files are read and no call
 //!   fails, so that none of them may give up.
-//! - `plans` (`specs/PlanLaws.antt`): the same of `bands`, `half`, `round`, `round-from`, `narrow`, `widen`, `timing`, `draw`, `sheet` and `sweep`, and
+//! - `plans` (`specs/PlanLaws.antt`): the same of `bands`, `half`, `round`, `round-from`, `narrow`, `widen`, `timing`, `draw`, `sheet`, `sweep` and `sensitivity` (`specs/LimitLaws.antt`), and
 //!   `law_plan_is_held`: `hold` accepts what `round` put; `law_timing_is_bounded`: a plan that holds is worth no more than what an accepted
 //!   certificate bounds.
 //! - `stops` (`specs/StopLaws.antt`): `law_solve_stop_says` and its like, which speak of boxes and pivots, and so stand apart;
@@ -26,7 +26,7 @@ mod stops;
 pub use ends::law_runs_are_complete;
 pub use plans::{
     law_bands_say, law_draw_says, law_half_says, law_narrow_says, law_plan_is_held,
-    law_round_from_says, law_round_says, law_sheet_says, law_sweep_says, law_timing_is_bounded,
+    law_round_from_says, law_round_says, law_sensitivity_says, law_sheet_says, law_sweep_says, law_timing_is_bounded,
     law_timing_says, law_widen_says,
 };
 pub use runs::{

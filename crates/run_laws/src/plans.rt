@@ -2,6 +2,7 @@
 
 ghost use Rattle.run_laws.specs.PlanLaws.{BandsSay, HalfSays, RoundSays, RoundFromSays, NarrowSays, WidenSays, TimingSays, TimingIsBounded, DrawSays, SheetSays};
 ghost use Rattle.run_laws.specs.PlanLaws.{SweepSays, PlanIsHeld};
+ghost use Rattle.run_laws.specs.LimitLaws.{SensitivitySays};
 
 /// A law over the definitions: after status 0 of `bands` the widest bands on the timing's offsets were printed, and after 4 a rule
 /// fails that speaks of no band.
@@ -89,6 +90,14 @@ pub fn law_sweep_says()
     ensures { SweepSays }
 {
     cycle_sweep::law_rows_say();
+}
+
+/// A law over the definitions: after status 0 of `sensitivity` the file that it put holds the table of the street's changes, each record says
+/// what holds of the street with its change, and the lines of the changes that gain were written.
+pub fn law_sensitivity_says()
+    ensures { SensitivitySays }
+{
+    limit_sensitivity::law_rows_say();
 }
 
 /// A law over the definitions: `hold` accepts the plan that `round` put.

@@ -1,10 +1,9 @@
 //! The list of the changes of a street.
 
 ghost use Rattle.std.specs.{Prelude.{◌≡◌, ◌+◌, ◌-◌, ◌++◌, ◌∷◌, [], ◌≤◌, ◌<◌, IfOk, OnOk}, List.{flat_map, range_with_len}};
-ghost use Rattle.artery_model.specs.Valid.{IsValid};
 ghost use Rattle.progression.specs.Street.{count, signal_of, link_of};
 ghost use Rattle.street_changes.specs.declared.limits.Change.TheVariants as Change;
-ghost use Rattle.street_changes.specs.Changes.{where_so, wants_patterns, signal_changes, speed_changes, is_above_zero, street_changes, ends, pace_changes, changes};
+ghost use Rattle.street_changes.specs.Changes.{where_so, wants_patterns, signal_changes, speed_changes, street_changes, ends, pace_changes, changes};
 
 use crate::limits::{Change, LinkLimit, SignalLimit, StreetLimit};
 use artery_model::{Artery, Head, Link, Pair, Signal};

@@ -1,6 +1,6 @@
 //! How a change is told.
 
-ghost use Rattle.std.specs.{Prelude.{◌≡◌, ◌++◌, ◌-◌, IfOk, OnOk, codes}, Fmt.{decimal}};
+ghost use Rattle.std.specs.{Prelude.{◌≡◌, ◌++◌, IfOk, OnOk}, Fmt.{decimal}};
 ghost use Rattle.progression.specs.Street.{signal_of};
 ghost use Rattle.street_changes.specs.Names.{signal_word, link_word, street_word, change_word, place_text, given_name, link_name, name_text};
 

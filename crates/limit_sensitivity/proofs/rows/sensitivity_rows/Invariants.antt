@@ -1,8 +1,0 @@
-use Rattle.std.proofs.Common.{take}
-use Rattle.std.specs.List.{AllZip}
-use Rattle.limit_sensitivity.specs.Rows.{IsRow}
-use Rattle.limit_sensitivity.proofs.rows.sensitivity_rows.Given as goal
-
--- a row for each of the changes so far
-abbrev pub invariant-loop-change : goal.invariant-loop-change
-invariant-loop-change l = AllZip (IsRow l.artery l.limit) (take l.change-index l.list.items) l.rows.items
