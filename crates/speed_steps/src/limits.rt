@@ -1,7 +1,7 @@
 //! The two limits of one direction of a link.
 
-ghost use Rattle.std.specs.Prelude.{◌≡◌, ◌<◌, ◌≤◌, find, map};
-ghost use Rattle.artery_model.specs.{Bounds.{least_distance, most_distance, least_speed, most_speed}, Valid.{IsSpeeds}};
+ghost use Rattle.std.specs.Prelude.{◌≡◌, ◌≤◌, find, map};
+ghost use Rattle.artery_model.specs.{Bounds.{least_distance, most_distance}, Valid.{IsSpeeds}};
 ghost use Rattle.speed_steps.specs.{Steps.{steps, faster, slower}, Sizes.{IsStep}};
 ghost use Rattle.speed_steps.specs.Moved.{is_speed, are_limits, at_step, both_moved, with_moved, each_moved, limits_moved, moved, changed, changes};
 

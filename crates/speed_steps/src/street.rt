@@ -1,6 +1,6 @@
 //! The street with its limits moved.
 
-ghost use Rattle.std.specs.Prelude.{◌≡◌, ◌<◌, ◌≤◌, All, IfOk, map, sum_by};
+ghost use Rattle.std.specs.Prelude.{◌≡◌, ◌<◌, ◌≤◌, All, IfOk, map};
 ghost use Rattle.progression.specs.Street.{count};
 ghost use Rattle.artery_model.specs.Valid.{IsLink};
 ghost use Rattle.speed_steps.specs.Moved.{link_moved, street_moved, stays, link_changes, limits_changed};

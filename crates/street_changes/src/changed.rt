@@ -1,6 +1,6 @@
 //! The street with a change.
 
-ghost use Rattle.std.specs.Prelude.{◌≡◌, ◌++◌, ◌∷◌, [], ◌+◌, ◌≤◌, ◌<◌, All, length, get_or, IfOk, OnOk};
+ghost use Rattle.std.specs.Prelude.{◌≡◌, ◌+◌, ◌≤◌, ◌<◌, All, length, get_or, IfOk};
 ghost use Rattle.progression.specs.Street.{no_signal, no_link};
 ghost use Rattle.artery_model.specs.{Bounds.{least_share, most_share, least_cycle, most_cycle}, Valid.{IsQuantity, IsPair, IsLink}};
 ghost use Rattle.street_changes.specs.Changed.{changed_head, changed_signal, changed_link, each_by, IsChanged};
