@@ -533,43 +533,62 @@ maxband --help --version
 ",
 );
 
+/// The row of these parts.
+fn row_of(parts: Parts) -> Row
+    ensures { row_view result ≡ record { word = parts.entry.0.now; reads = parts.entry.1.now; puts = parts.entry.2; settings = parts.entry.3.now; chooses = parts.entry.4; does = parts.entry.5.now; put_name = parts.entry.6.now } }
+{
+    let (word, reads, puts, settings, chooses, does, put_name) = parts;
+    Row {
+        word,
+        reads,
+        puts,
+        settings,
+        chooses,
+        does,
+        put_name,
+    }
+}
+
+/// The page of these parts.
+fn page_of(parts: PageParts) -> Page
+    ensures { page_view result ≡ record { put = parts.entry.0.now; prints = parts.entry.1.now; examples = parts.entry.2.now } }
+{
+    let (put, prints, examples) = parts;
+    Page {
+        put,
+        prints,
+        examples,
+    }
+}
+
 impl Usage {
     /// Its row.
     pub fn row(self) -> Row
         ensures { row_view result ≡ row self }
     {
-        let (word, reads, puts, settings, chooses, does, put_name) = match self {
-            Usage::Solve => SOLVE,
-            Usage::Check => CHECK,
-            Usage::Bands => BANDS,
-            Usage::Round => ROUND,
-            Usage::RoundFrom => ROUND_FROM,
-            Usage::Half => HALF,
-            Usage::TimingOf => TIMING_OF,
-            Usage::Draw => DRAW,
-            Usage::Sheet => SHEET,
-            Usage::Renew => RENEW,
-            Usage::Links => LINKS,
-            Usage::CheckLinks => CHECK_LINKS,
-            Usage::Hold => HOLD,
-            Usage::Show => SHOW,
-            Usage::Narrow => NARROW,
-            Usage::Widen => WIDEN,
-            Usage::Make => MAKE,
-            Usage::Trial => TRIAL,
-            Usage::Sweep => SWEEP,
-            Usage::Sensitivity => SENSITIVITY,
-            Usage::Help => HELP,
-            Usage::Version => VERSION,
-        };
-        Row {
-            word,
-            reads,
-            puts,
-            settings,
-            chooses,
-            does,
-            put_name,
+        match self {
+            Usage::Solve => row_of(SOLVE),
+            Usage::Check => row_of(CHECK),
+            Usage::Bands => row_of(BANDS),
+            Usage::Round => row_of(ROUND),
+            Usage::RoundFrom => row_of(ROUND_FROM),
+            Usage::Half => row_of(HALF),
+            Usage::TimingOf => row_of(TIMING_OF),
+            Usage::Draw => row_of(DRAW),
+            Usage::Sheet => row_of(SHEET),
+            Usage::Renew => row_of(RENEW),
+            Usage::Links => row_of(LINKS),
+            Usage::CheckLinks => row_of(CHECK_LINKS),
+            Usage::Hold => row_of(HOLD),
+            Usage::Show => row_of(SHOW),
+            Usage::Narrow => row_of(NARROW),
+            Usage::Widen => row_of(WIDEN),
+            Usage::Make => row_of(MAKE),
+            Usage::Trial => row_of(TRIAL),
+            Usage::Sweep => row_of(SWEEP),
+            Usage::Sensitivity => row_of(SENSITIVITY),
+            Usage::Help => row_of(HELP),
+            Usage::Version => row_of(VERSION),
         }
     }
 
@@ -577,34 +596,29 @@ impl Usage {
     pub fn page(self) -> Page
         ensures { page_view result ≡ page self }
     {
-        let (put, prints, examples) = match self {
-            Usage::Solve => SOLVE_PAGE,
-            Usage::Check => CHECK_PAGE,
-            Usage::Bands => BANDS_PAGE,
-            Usage::Round => ROUND_PAGE,
-            Usage::RoundFrom => ROUND_FROM_PAGE,
-            Usage::Half => HALF_PAGE,
-            Usage::TimingOf => TIMING_OF_PAGE,
-            Usage::Draw => DRAW_PAGE,
-            Usage::Sheet => SHEET_PAGE,
-            Usage::Renew => RENEW_PAGE,
-            Usage::Links => LINKS_PAGE,
-            Usage::CheckLinks => CHECK_LINKS_PAGE,
-            Usage::Hold => HOLD_PAGE,
-            Usage::Show => SHOW_PAGE,
-            Usage::Narrow => NARROW_PAGE,
-            Usage::Widen => WIDEN_PAGE,
-            Usage::Make => MAKE_PAGE,
-            Usage::Trial => TRIAL_PAGE,
-            Usage::Sweep => SWEEP_PAGE,
-            Usage::Sensitivity => SENSITIVITY_PAGE,
-            Usage::Help => HELP_PAGE,
-            Usage::Version => VERSION_PAGE,
-        };
-        Page {
-            put,
-            prints,
-            examples,
+        match self {
+            Usage::Solve => page_of(SOLVE_PAGE),
+            Usage::Check => page_of(CHECK_PAGE),
+            Usage::Bands => page_of(BANDS_PAGE),
+            Usage::Round => page_of(ROUND_PAGE),
+            Usage::RoundFrom => page_of(ROUND_FROM_PAGE),
+            Usage::Half => page_of(HALF_PAGE),
+            Usage::TimingOf => page_of(TIMING_OF_PAGE),
+            Usage::Draw => page_of(DRAW_PAGE),
+            Usage::Sheet => page_of(SHEET_PAGE),
+            Usage::Renew => page_of(RENEW_PAGE),
+            Usage::Links => page_of(LINKS_PAGE),
+            Usage::CheckLinks => page_of(CHECK_LINKS_PAGE),
+            Usage::Hold => page_of(HOLD_PAGE),
+            Usage::Show => page_of(SHOW_PAGE),
+            Usage::Narrow => page_of(NARROW_PAGE),
+            Usage::Widen => page_of(WIDEN_PAGE),
+            Usage::Make => page_of(MAKE_PAGE),
+            Usage::Trial => page_of(TRIAL_PAGE),
+            Usage::Sweep => page_of(SWEEP_PAGE),
+            Usage::Sensitivity => page_of(SENSITIVITY_PAGE),
+            Usage::Help => page_of(HELP_PAGE),
+            Usage::Version => page_of(VERSION_PAGE),
         }
     }
 }
