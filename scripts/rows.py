@@ -47,7 +47,7 @@ def rows():
     """All rows, in the order of the help."""
     code = read(TABLE)
     parts, pages = constants(TABLE, "Parts"), constants(TABLE, "PageParts")
-    names = dict(re.findall(r"Usage::(\w+) => (\w+),", code[: code.index("_PAGE,")]))
+    names = dict(re.findall(r"Usage::(\w+) => row_of\((\w+)\),", code))
     order = re.findall(r"Usage::(\w+),", re.search(r"(?s)const USAGES.*?\];", code)[0])
     files, settings, most = labels(READERS), labels(SETTINGS), most_bytes()
     for usage in order:
