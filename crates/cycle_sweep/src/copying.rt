@@ -22,7 +22,7 @@ fn head_at(alloc: Global, head: &Head, cycle: Frac) -> Result<Head, Memory>
 }
 
 /// The street with this cycle alone: a valid street is valid with any cycle that an artery may have.
-pub(crate) fn artery_at(alloc: Global, artery: &Artery, cycle: Frac) -> Result<Artery, Memory>
+pub fn artery_at(alloc: Global, artery: &Artery, cycle: Frac) -> Result<Artery, Memory>
     requires { IsQuantity least_cycle most_cycle cycle }
     ensures { IfOk result (λ a. a ≡ at_cycle artery.now cycle) }
 {

@@ -23,6 +23,7 @@ mod sweep;
 mod table;
 mod words;
 
+pub use copying::artery_at;
 pub use cycle::is_cycle;
 pub use laws::law_rows_say;
 pub use row::SweepRow;

@@ -1,5 +1,5 @@
 mod Rounding
-mod Fine
-mod Rules
-mod Best
+pub mod Fine
+pub mod Rules
+pub mod Best
 mod Once

@@ -26,5 +26,7 @@ mod planning;
 mod seconds;
 
 pub use answer::{Plan, PlanEnd, PlanFault};
+pub use grid::{timed, too_fine};
 pub use laws::{law_one_end, law_one_plan, law_plan_or_end};
 pub use planning::plan;
+pub use seconds::{Rounded, offsets};
