@@ -1,4 +1,4 @@
-//! Tests of whole searches and their reports: `branch_tree`, `multi_band`, `diagram_print` and `cycle_sweep`, through what is public of
+//! Tests of whole searches and their reports: `branch_tree`, `multi_band`, `diagram_print`, `cycle_sweep` and `whole_plan`, through what is public of
 //! them.
 #![tactic(auto)]
 
@@ -10,3 +10,5 @@ mod cycle_sweep_tests;
 mod diagram_print_tests;
 #[cfg(test)]
 mod multi_band_tests;
+#[cfg(test)]
+mod whole_plan_tests;

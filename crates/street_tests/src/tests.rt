@@ -10,3 +10,4 @@ mod search_box_tests;
 mod second_plan_tests;
 mod speed_steps_tests;
 mod time_space_tests;
+mod whole_offsets_tests;

@@ -1,0 +1,5 @@
+mod Ticks
+mod Lists
+pub mod Ways
+mod Outer
+mod FinerWays

@@ -1,0 +1,93 @@
+//! The limits of a run in ticks.
+
+ghost use Rattle.std.specs.Prelude.{◌≡◌, ◌+◌, ◌*◌, ◌<◌, ◌≤◌, ◌^◌, ◌↔◌, ℕ, pos, ◌*ℤ◌, ◌≤ℤ◌, unsigned_abs};
+ghost use Rattle.rational_theory.specs.Rational.{◌*ℚ◌, ◌≤ℚ◌};
+ghost use Rattle.progression.specs.{Street.{count}, Speeds.{number}};
+ghost use Rattle.free_runs.specs.Street.{AreLimits};
+
+use artery_model::Artery;
+use narrow_fraction::Frac;
+use progression::Dir;
+use time_space::Timing;
+
+/// The least and the greatest run on a link, in ticks.
+#[derive(Clone, Copy)]
+pub struct RunLimits {
+    pub least: u128,
+    pub most: u128,
+}
+
+/// The greatest number of which so many are at most another.
+fn most_of(top: u128, bottom: u128) -> u128
+    requires { 0 < bottom }
+    ensures { (n : ℕ) → (bottom * n ≤ top) ↔ (n ≤ result) }
+{
+    top / bottom
+}
+
+/// The least number of which so many are at least another.
+fn least_of(top: u128, bottom: u128) -> u128
+    requires some { 0 < bottom }
+    requires top { top < 2 ^ 120 }
+    requires bottom { bottom < 2 ^ 30 }
+    ensures { (n : ℕ) → (top ≤ bottom * n) ↔ (result ≤ n) }
+{
+    (top + (bottom - 1)) / bottom
+}
+
+/// The numerator of a limit, times the grid.
+fn top_of(limit: Frac, grid: u128) -> u128
+    requires positive { pos 1 ≤ℤ limit.num }
+    requires num { unsigned_abs limit.num < 2 ^ 30 }
+    requires grid { grid < 2 ^ 80 }
+    ensures value { pos result ≡ limit.num *ℤ pos grid }
+    ensures small { result < 2 ^ 120 }
+{
+    limit.num() as u128 * grid
+}
+
+/// The denominator of a limit.
+fn bottom_of(limit: Frac) -> u128
+    ensures value { result ≡ limit.den }
+    ensures some { 0 < result }
+{
+    limit.den() as u128
+}
+
+/// The least number of ticks that is at least so many seconds.
+fn least_ticks(limit: Frac, grid: u128) -> u128
+    requires positive { pos 1 ≤ℤ limit.num }
+    requires num { unsigned_abs limit.num < 2 ^ 30 }
+    requires den { limit.den < 2 ^ 30 }
+    requires grid { grid < 2 ^ 80 }
+    ensures { (n : ℕ) → ((limit *ℚ number grid) ≤ℚ number n) ↔ (result ≤ n) }
+{
+    let top = top_of(limit, grid);
+    let bottom = bottom_of(limit);
+    least_of(top, bottom)
+}
+
+/// The greatest number of ticks that is at most so many seconds.
+fn most_ticks(limit: Frac, grid: u128) -> u128
+    requires positive { pos 1 ≤ℤ limit.num }
+    requires num { unsigned_abs limit.num < 2 ^ 30 }
+    requires grid { grid < 2 ^ 80 }
+    ensures { (n : ℕ) → (number n ≤ℚ (limit *ℚ number grid)) ↔ (n ≤ result) }
+{
+    let top = top_of(limit, grid);
+    let bottom = bottom_of(limit);
+    most_of(top, bottom)
+}
+
+/// The limits of the run on a link.
+pub fn run_limits(artery: &Artery, timing: &Timing, dir: Dir, link: u32) -> RunLimits
+    requires first { 1 ≤ link }
+    requires last { link < count artery.now }
+    ensures { AreLimits artery.now dir timing.now.grid link result.least result.most }
+{
+    let grid = timing.grid();
+    RunLimits {
+        least: least_ticks(artery.run_low(dir, link), grid),
+        most: most_ticks(artery.run_high(dir, link), grid),
+    }
+}

@@ -1,0 +1,8 @@
+pub mod Scale
+pub mod Offsets
+pub mod Moves
+pub mod Score
+pub mod Steady
+pub mod Frame
+pub mod Lines
+pub mod Tried

@@ -1,0 +1,169 @@
+//! The plan of given offsets.
+
+ghost use Rattle.std.specs.Prelude.{◌≡◌, ◌≤◌, false, true, None, IfOk};
+ghost use Rattle.progression.specs.Good.{Good};
+ghost use Rattle.second_plan.specs.{Grid.{too_fine}, Seconds.{IsWholeCycle}};
+ghost use Rattle.whole_offsets.specs.{Scale.{limits_pace, IsScale}, Offsets.{AreWithin}, Tried.{IsTried}};
+ghost use Rattle.whole_offsets.specs.Frame.{IsMeasuredFor, or_nothing, lacking};
+
+use crate::frames::{frame, with_lines};
+use crate::lines::free_line;
+use crate::scale::limits_pace;
+use crate::score::{Score, judged};
+use artery_model::Artery;
+use band_measure::{
+    Bands, BothPairs, GridScale, Widest, cut, law_finer_pairs, law_own_pair, widest,
+};
+use narrow_fraction::Memory;
+use progression::Dir;
+use second_plan::{Rounded, timed};
+use std::alloc::Global;
+use time_space::Timing;
+
+/// Offsets that are tried, their plan, and what it is judged by.
+#[derive(Drop)]
+pub struct Tried {
+    pub rounded: Rounded,
+    pub timing: Timing,
+    pub score: Score,
+}
+
+/// A plan, and how many directions it has no line in.
+#[derive(Drop)]
+struct Measured {
+    timing: Timing,
+    lineless: u32,
+}
+
+/// The plan with free runs.
+fn free_plan(
+    alloc: Global,
+    artery: &Artery,
+    timing: &Timing,
+    scale: GridScale,
+    rounded: &Rounded,
+) -> Result<Measured, Memory>
+    requires free { limits_pace artery.now ≡ false }
+    requires good { Good artery.now timing.now }
+    requires scale { IsScale artery.now timing.now rounded.now.seconds scale.grid scale.unit }
+    requires within { AreWithin artery.now rounded.now.seconds rounded.now.offsets.items }
+    ensures { IfOk result (λ m. IsMeasuredFor artery.now timing.now rounded.now.seconds rounded.now.offsets.items m.timing m.lineless) }
+{
+    artery.known_valid();
+    law_own_pair();
+    let frame = frame(alloc, artery, timing, scale, rounded)?;
+    let out = free_line(alloc, artery, &frame, Dir::Outbound)?;
+    let back = free_line(alloc, artery, &frame, Dir::Inbound)?;
+    let wide = Bands {
+        outbound: out.pair.band,
+        inbound: back.pair.band,
+    };
+    let bands = cut(artery, wide);
+    let lineless = out.lineless + back.lineless;
+    let timing = with_lines(alloc, &frame, out, back, bands)?;
+    Ok(Measured { timing, lineless })
+}
+
+/// What was found, or a first line and a band of 0.
+fn or_nothing(found: Option<Widest>) -> Widest
+    ensures { result ≡ or_nothing found }
+{
+    match found {
+        Some(pair) => pair,
+        None => Widest { first: 0, band: 0 },
+    }
+}
+
+/// 1 where nothing was found, and else 0.
+fn lacking(found: Option<Widest>) -> u32
+    ensures value { result ≡ lacking found }
+    ensures small { result ≤ 1 }
+{
+    match found {
+        Some(_) => 0,
+        None => 1,
+    }
+}
+
+/// The plan with the timing's runs.
+fn pace_plan(
+    alloc: Global,
+    artery: &Artery,
+    timing: &Timing,
+    rounded: &Rounded,
+) -> Result<Measured, Memory>
+    requires limited { limits_pace artery.now ≡ true }
+    requires good { Good artery.now timing.now }
+    requires fine { too_fine artery.now timing.now rounded.now.seconds ≡ None }
+    requires some { 1 ≤ rounded.now.seconds }
+    requires small { rounded.now.seconds ≤ 3600 }
+    requires within { AreWithin artery.now rounded.now.seconds rounded.now.offsets.items }
+    requires whole { IsWholeCycle artery.now rounded.now.seconds }
+    ensures { IfOk result (λ m. IsMeasuredFor artery.now timing.now rounded.now.seconds rounded.now.offsets.items m.timing m.lineless) }
+{
+    artery.known_valid();
+    law_own_pair();
+    law_finer_pairs();
+    let nothing = Widest { first: 0, band: 0 };
+    let none = BothPairs {
+        outbound: nothing,
+        inbound: nothing,
+    };
+    let frame = timed(alloc, artery, timing, rounded, none)?;
+    let found_out = widest(artery, &frame, Dir::Outbound);
+    let found_in = widest(artery, &frame, Dir::Inbound);
+    let (out, back) = (or_nothing(found_out), or_nothing(found_in));
+    let wide = Bands {
+        outbound: out.band,
+        inbound: back.band,
+    };
+    let bands = cut(artery, wide);
+    let lineless = lacking(found_out) + lacking(found_in);
+    let timing = frame.with_bands(out.first, bands.outbound, back.first, bands.inbound);
+    Ok(Measured { timing, lineless })
+}
+
+/// The plan of offsets, measured.
+fn plan_of(
+    alloc: Global,
+    artery: &Artery,
+    timing: &Timing,
+    scale: GridScale,
+    rounded: &Rounded,
+) -> Result<Measured, Memory>
+    requires good { Good artery.now timing.now }
+    requires scale { IsScale artery.now timing.now rounded.now.seconds scale.grid scale.unit }
+    requires within { AreWithin artery.now rounded.now.seconds rounded.now.offsets.items }
+    requires whole { IsWholeCycle artery.now rounded.now.seconds }
+    ensures { IfOk result (λ m. IsMeasuredFor artery.now timing.now rounded.now.seconds rounded.now.offsets.items m.timing m.lineless) }
+{
+    if limits_pace(artery) {
+        pace_plan(alloc, artery, timing, rounded)
+    } else {
+        free_plan(alloc, artery, timing, scale, rounded)
+    }
+}
+
+/// Offsets with their plan and what it is judged by.
+pub fn try_offsets(
+    alloc: Global,
+    artery: &Artery,
+    timing: &Timing,
+    scale: GridScale,
+    rounded: Rounded,
+) -> Result<Tried, Memory>
+    requires good { Good artery.now timing.now }
+    requires scale { IsScale artery.now timing.now rounded.seconds scale.grid scale.unit }
+    requires within { AreWithin artery.now rounded.seconds rounded.offsets.items }
+    requires whole { IsWholeCycle artery.now rounded.seconds }
+    ensures plan { IfOk result (λ x. IsTried artery.now timing.now rounded.seconds x) }
+    ensures offsets { IfOk result (λ x. x.rounded ≡ rounded) }
+{
+    let Measured { timing, lineless } = plan_of(alloc, artery, timing, scale, &rounded)?;
+    let score = judged(artery, &timing, lineless);
+    Ok(Tried {
+        rounded,
+        timing,
+        score,
+    })
+}

@@ -1,0 +1,5 @@
+pub mod Cycles
+pub mod Sought
+pub mod Sets
+pub mod Choice
+pub mod Planned

@@ -1,0 +1,64 @@
+//! The set of offsets that comes of a cycle.
+
+ghost use Rattle.std.specs.Prelude.{IfOk, IfSome};
+ghost use Rattle.progression.specs.Good.{Good};
+ghost use Rattle.second_plan.specs.Seconds.{IsWholeCycle};
+ghost use Rattle.whole_plan.specs.{Sought.{street_at, IsSought}, Sets.{IsTriedFrom, IsTried}};
+
+use crate::searching::Sought;
+use artery_model::Artery;
+use narrow_fraction::Memory;
+use second_plan::{PlanEnd, PlanFault};
+use std::alloc::Global;
+use time_space::Timing;
+use whole_offsets::{OffsetPlan, steady};
+
+/// What comes of a cycle.
+#[derive(Drop)]
+pub(crate) enum Tried {
+    /// Offsets from which no move is better, with their plan.
+    Set(OffsetPlan),
+    /// There are none.
+    Ended(PlanEnd),
+}
+
+/// What comes of a cycle from this timing.
+fn tried_from(
+    alloc: Global,
+    artery: &Artery,
+    timing: &Timing,
+    seconds: u64,
+) -> Result<Tried, Memory>
+    requires good { Good artery.now timing.now }
+    requires whole { IsWholeCycle artery.now seconds }
+    ensures { IfOk result (λ tried. IsTriedFrom artery.now timing.now seconds tried) }
+{
+    match steady(alloc, artery, timing, seconds) {
+        Ok(plan) => Ok(Tried::Set(plan)),
+        Err(PlanFault::End(end)) => Ok(Tried::Ended(end)),
+        Err(PlanFault::Memory) => Err(Memory),
+    }
+}
+
+/// What comes of a cycle of which this was found; the given timing serves where none was.
+pub(crate) fn tried_at(
+    alloc: Global,
+    artery: &Artery,
+    given: &Option<Timing>,
+    sought: &Sought,
+    seconds: u64,
+) -> Result<Tried, Memory>
+    requires whole { IsWholeCycle artery.now seconds }
+    requires sought { IsSought (street_at artery.now seconds) sought.now }
+    requires found { IfSome sought.now.timing (λ timing. Good artery.now timing) }
+    requires given { IfSome given.now (λ timing. Good artery.now timing) }
+    ensures { IfOk result (λ tried. IsTried artery.now given.now seconds tried) }
+{
+    match &sought.timing {
+        Some(timing) => tried_from(alloc, artery, timing, seconds),
+        None => match given {
+            Some(timing) => tried_from(alloc, artery, timing, seconds),
+            None => Ok(Tried::Ended(PlanEnd::NoTimingGiven)),
+        },
+    }
+}
