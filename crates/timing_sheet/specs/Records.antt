@@ -1,9 +1,9 @@
 -- The table of a timing: a head and a record for each signal, of 19 fields each.
-use Rattle.std.specs.Prelude.{ℕ, ◌-◌, ◌*◌, ◌==◌, ◌||◌, nat_lt, if◌then◌else◌, List, [], ◌∷◌, ◌++◌, codes}
+use Rattle.std.specs.Prelude.{ℕ, ◌-◌, ◌*◌, ◌==◌, nat_lt, if◌then◌else◌, List, [], ◌∷◌, ◌++◌, codes}
 use Rattle.std.specs.List.{flat_map, range_with_len}
 use Rattle.std.specs.Fmt.{decimal}
 use Rattle.csv.specs.Writing.{default_writer, row_text}
-use Rattle.progression.specs.Green.{is_early, red_ticks}
+use Rattle.progression.specs.Green.{red_ticks}
 use Rattle.progression.specs.Street.{Street, count, signal_of, left_against, distance}
 use Rattle.progression.specs.TimingRecord.{TimingRecord, cycle, run, pattern_of}
 use Rattle.progression.specs.declared.parts.Units.{Units}
@@ -14,6 +14,7 @@ use Rattle.description_reader.specs.declared.measure.Reference.{Reference}
 use Rattle.timing_measures.specs.Measures.{link_speed}
 use Rattle.diagram_draw.specs.Captions.{tenths, seconds_text}
 use Rattle.diagram_draw.specs.Ways.{has_band}
+use Rattle.street_words.specs.Patterns.{pattern_words}
 use Rattle.table_text.specs.Cells.{name_cell}
 use Rattle.timing_sheet.specs.Moments.{offset_ticks, first_ticks, last_ticks}
 use Rattle.timing_sheet.specs.Numbers.{moment_text}
@@ -29,23 +30,9 @@ link_heads English = codes "length_out_ft,travel_out_s,speed_out_mph,length_in_f
 abbrev pub head_text : Units → List ℕ
 head_text units = signal_heads ++ link_heads units
 
--- ---- left turns
--- the left turn against a direction goes the other way
-abbrev pub turn_name : Dir → List ℕ
-turn_name Inbound = codes "out "
-turn_name Outbound = codes "in "
-
--- it lags where that direction's red begins early
-unfoldable pub turn_text : Street → TimingRecord → Dir → ℕ → List ℕ
-turn_text a t d i = if left_against a d i == 0 then [] else turn_name d ++ (if is_early d (pattern_of t i) then codes "lag" else codes "lead")
-
--- between two of them
-abbrev pub turn_gap : ℕ → ℕ → List ℕ
-turn_gap out back = if (out == 0) || (back == 0) then [] else codes " "
-
--- the outbound left turn and the inbound one, as far as there are such
+-- the left turns of a signal under its pattern, the outbound one first, as far as there are such
 unfoldable pub pattern_text : Street → TimingRecord → ℕ → List ℕ
-pattern_text a t i = turn_text a t Inbound i ++ (turn_gap (left_against a Inbound i) (left_against a Outbound i) ++ turn_text a t Outbound i)
+pattern_text a t i = pattern_words a i (pattern_of t i)
 
 -- ---- fields of a signal
 -- so many parts of the cycle, in seconds

@@ -5,12 +5,13 @@ ghost use Rattle.progression.specs.Street.{count};
 ghost use Rattle.diagram_draw.specs.Captions.{seconds_text};
 ghost use Rattle.timing_sheet.specs.{Numbers.{moment_text}, Records.{parts_text, pattern_text, green_text, speed_text}};
 
-use crate::numbers::{push_moment, push_seconds, push_tenths};
+use crate::numbers::{push_moment, push_seconds};
 use crate::pattern::push_pattern;
 use artery_model::{Artery, Dir};
 use narrow_fraction::Memory;
 use quantity_text::push_number;
 use std::alloc::Global;
+use street_words::push_tenths;
 use table_text::Record;
 use time_space::{Timing, cycle, red_ticks};
 use timing_measures::some_speed;

@@ -1,32 +1,14 @@
 //! Numbers with one decimal place.
 
-ghost use Rattle.std.specs.{Prelude.{◌≡◌, ◌/◌, ◌%◌, ◌<◌, ◌≤◌, ◌^◌, ◌++◌, codes, OnOk, pos, ◌≤ℤ◌}, Fmt.{decimal}};
-ghost use Rattle.diagram_draw.specs.Captions.{tenths, seconds_text, percent_text};
+ghost use Rattle.std.specs.{Prelude.{◌≡◌, ◌/◌, ◌%◌, ◌<◌, ◌^◌, ◌++◌, OnOk}};
+ghost use Rattle.diagram_draw.specs.Captions.{seconds_text, percent_text};
 ghost use Rattle.timing_sheet.specs.Numbers.{moment_tenths, moment_text};
 
 use artery_model::{Artery, Dir};
-use narrow_fraction::{Frac, Memory};
-use quantity_text::{push_number, push_text};
+use narrow_fraction::Memory;
+use street_words::{push_digit, push_tenths};
 use time_space::{Timing, cycle};
 use timing_measures::{Rounded, cycle_seconds, quotient, round_to, seconds};
-
-/// Writes a whole number and a digit behind the point.
-fn push_digit(out: &mut Vec<u8>, number: Rounded) -> Result<(), Memory>
-    ensures { OnOk result (out.new.items ≡ out.old.items ++ (decimal number.whole ++ (codes "." ++ decimal number.rest))) }
-{
-    push_number(out, number.whole)?;
-    push_text(out, ".")?;
-    push_number(out, number.rest as u128)
-}
-
-/// Writes a number, to the nearest tenth.
-pub fn push_tenths(out: &mut Vec<u8>, value: Frac) -> Result<(), Memory>
-    requires least { pos 0 ≤ℤ value.num }
-    requires denominator { value.den ≤ 2 ^ 120 }
-    ensures { OnOk result (out.new.items ≡ out.old.items ++ tenths value) }
-{
-    push_digit(out, round_to(value, 1))
-}
 
 /// Writes ticks as seconds.
 pub fn push_seconds(out: &mut Vec<u8>, timing: &Timing, ticks: u128) -> Result<(), Memory>

@@ -1,0 +1,3 @@
+mod Lines
+mod Seen
+pub mod HaveWords

@@ -1,0 +1,9 @@
+pub mod Examples
+pub mod FaultWords
+pub mod Near
+pub mod Places
+pub mod Promises
+pub mod Sentences
+pub mod Shown
+pub mod TextWords
+pub mod Wants

@@ -1,0 +1,106 @@
+//! The lines about a key that isn't known.
+
+ghost use Rattle.std.specs.{Prelude.{◌≡◌, ◌++◌, codes, OnOk, option_map}, List.{flat_map}};
+ghost use Rattle.description_reader.specs.KeyTable.{key_of, keys_of};
+ghost use Rattle.fault_words.specs.Near.{meant_key};
+ghost use Rattle.fault_words.specs.FaultWords.{meant_line, reason_line, key_here, keys_line, unknown_lines};
+
+use crate::near::{is_here, meant_key, named_key};
+use crate::sentence::absent_line;
+use description_reader::{Entry, Facts, Section, entries};
+use narrow_fraction::Memory;
+use quantity_text::push_text;
+
+fn push_name_meant(out: &mut Vec<u8>, name: &str) -> Result<(), Memory>
+    ensures { OnOk result (out.new.items ≡ out.old.items ++ (codes "the nearest key here is " ++ (name.now ++ codes "\n"))) }
+{
+    push_text(out, "the nearest key here is ")?;
+    push_text(out, name)?;
+    push_text(out, "\n")
+}
+
+fn push_meant(out: &mut Vec<u8>, meant: Option<&Entry>) -> Result<(), Memory>
+    ensures { OnOk result (out.new.items ≡ out.old.items ++ meant_line (option_map (λ e. key_of e.now) meant.entry)) }
+{
+    match meant {
+        Some(entry) => push_name_meant(out, entry.name),
+        None => Ok(()),
+    }
+}
+
+/// Writes why a key of other files is none of this one, or which key is near.
+fn push_reason(
+    out: &mut Vec<u8>,
+    facts: Facts,
+    section: Section,
+    name: &str,
+    named: Option<&Entry>,
+) -> Result<(), Memory>
+    ensures { OnOk result (out.new.items ≡ out.old.items ++ reason_line facts section name.now (option_map (λ e. key_of e.now) named.entry)) }
+{
+    match named {
+        Some(entry) => push_text(out, absent_line(entry.when)),
+        None => push_nearest(out, facts, section, name),
+    }
+}
+
+fn push_nearest(out: &mut Vec<u8>, facts: Facts, section: Section, name: &str) -> Result<(), Memory>
+    ensures { OnOk result (out.new.items ≡ out.old.items ++ meant_line (meant_key facts section name.now)) }
+{
+    let meant = meant_key(*out.allocator(), facts, section, name)?;
+    push_meant(out, meant)
+}
+
+fn push_key(out: &mut Vec<u8>, name: &str) -> Result<(), Memory>
+    ensures { OnOk result (out.new.items ≡ out.old.items ++ (codes " " ++ name.now)) }
+{
+    push_text(out, " ")?;
+    push_text(out, name)
+}
+
+fn push_key_here(
+    out: &mut Vec<u8>,
+    facts: Facts,
+    section: Section,
+    entry: &Entry,
+) -> Result<(), Memory>
+    ensures { OnOk result (out.new.items ≡ out.old.items ++ key_here facts section (key_of entry.now)) }
+{
+    if is_here(facts, section, entry) {
+        push_key(out, entry.name)
+    } else {
+        Ok(())
+    }
+}
+
+fn push_keys(out: &mut Vec<u8>, facts: Facts, section: Section) -> Result<(), Memory>
+    ensures { OnOk result (out.new.items ≡ out.old.items ++ flat_map (key_here facts section) (keys_of section)) }
+{
+    for entry in entries(section) {
+        push_key_here(out, facts, section, entry)?;
+    }
+    Ok(())
+}
+
+#[tactic(auto, unfolding(crate::specs::FaultWords::keys_line))]
+fn push_keys_line(out: &mut Vec<u8>, facts: Facts, section: Section) -> Result<(), Memory>
+    ensures { OnOk result (out.new.items ≡ out.old.items ++ keys_line facts section) }
+{
+    push_text(out, "the keys here are")?;
+    push_keys(out, facts, section)?;
+    push_text(out, "\n")
+}
+
+/// Writes why a key isn't known, and which are.
+#[tactic(auto, unfolding(crate::specs::FaultWords::unknown_lines))]
+pub fn push_unknown(
+    out: &mut Vec<u8>,
+    facts: Facts,
+    section: Section,
+    name: &str,
+) -> Result<(), Memory>
+    ensures { OnOk result (out.new.items ≡ out.old.items ++ unknown_lines facts section name.now) }
+{
+    push_reason(out, facts, section, name, named_key(section, name))?;
+    push_keys_line(out, facts, section)
+}

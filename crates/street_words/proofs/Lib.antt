@@ -1,0 +1,5 @@
+mod Loops
+mod Multiples
+mod Tolds
+mod BoundLaws
+mod WarningLaws

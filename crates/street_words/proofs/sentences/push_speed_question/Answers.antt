@@ -1,0 +1,8 @@
+use Rattle.std.proofs.lemmas.Result.{on_ok_weaker}
+use Rattle.street_words.specs.Warnings.{speed_question}
+use Rattle.quantity_text.proofs.Pushed.{three_pushed}
+use Rattle.street_words.proofs.sentences.push_speed_question.Goals as goal
+
+pub returns : goal.returns
+unfolding speed_question
+returns c = on_ok_weaker c.push_text-2.result (three_pushed _ _ _ _ _ _ _ c.in_ok-push_text.ensures c.in_ok-push_speed_word.ensures) c.push_text-2.ensures

@@ -1,0 +1,7 @@
+use Rattle.std.proofs.Common.{◌≡◌, ◌++◌, ◌-◌, ◌≤◌}
+use Rattle.std.specs.List.{flat_map, range_with_len}
+use Rattle.street_words.specs.Warnings.{told, link_warnings}
+use Rattle.street_words.proofs.warnings.push_of_links.Given as goal
+
+abbrev pub invariant-loop-link : goal.invariant-loop-link
+invariant-loop-link l = (1 ≤ l.link) × (l.out.items ≡ l.fn.out.items ++ flat_map (told l.artery) (flat_map link_warnings (range_with_len 1 (l.link - 1))))

@@ -1,0 +1,15 @@
+//! Laws over the definitions alone.
+
+ghost use Rattle.street_words.specs.Laws.{BoundsSay, WarningsSay};
+
+/// The lines on bounds name the first signal with the least green, and no good timing has a wider band.
+#[tactic(auto, using(crate::proofs::BoundLaws::bounds_say))]
+pub fn law_bounds_say()
+    ensures { BoundsSay }
+{}
+
+/// A warning's line stands exactly where its rule holds.
+#[tactic(auto, using(crate::proofs::WarningLaws::warnings_say))]
+pub fn law_warnings_say()
+    ensures { WarningsSay }
+{}

@@ -1,0 +1,5 @@
+pub mod Lines
+pub mod Grammar
+pub mod Faults
+pub mod Claims
+pub mod Plans
