@@ -12,7 +12,7 @@ use Rattle.plan_text.specs.declared.fault.BadText.{BadText}
 use Rattle.run_inputs.specs.Timed.{timed_of}
 use Rattle.run_inputs.specs.Lines.{cannot_read_line}
 use Rattle.run_inputs.specs.declared.reader.Reader.{Reader}
-use Rattle.run_inputs.specs.declared.reader.Reader.TheVariants.{Description, Timing, Certificate, LinkCertificate, Timed, TypedPlan}
+use Rattle.run_inputs.specs.declared.reader.Reader.TheVariants.{Description, Timing, Certificate, LinkCertificate, Timed, TypedPlan, AnyFile}
 use Rattle.run_inputs.specs.Reading.{HasFault, IsBadText, IsRefusedFor, Input, IsUnread, StopsReading, IsRoomForFaults}
 use Rattle.run_inputs.specs.declared.cause.Cause.{Cause}
 use Rattle.run_inputs.specs.declared.cause.Cause.TheVariants as cause
@@ -44,6 +44,7 @@ refused_stop Certificate x c l h = bad_text_stop certificate_of x c l h
 refused_stop LinkCertificate x c l h = bad_text_stop links_of x c l h
 refused_stop Timed x c l h = bad_text_stop timed_of x c l h
 refused_stop TypedPlan x c l h = fault_stop GivesNone x c l h
+refused_stop AnyFile x c l h = absurd h
 
 module _ (held : List ℕ → Option (List ℕ)) (before after : List ℕ → ℕ) where
   pub unread_stop : (i : Input) (place : ℕ) (c : Cause) (l : List ℕ) → IsUnread i place held before after c l → IsStop c

@@ -2,7 +2,7 @@
 use Rattle.std.specs.Prelude.{ℕ, List}
 use Rattle.run_inputs.specs.declared.reader.Reader.{Reader}
 use Rattle.run_inputs.specs.declared.reader.Reader.TheVariants as reader
-use Rattle.run_inputs.specs.declared.reader.TheConstants.{DESCRIPTION, TIMING, CERTIFICATE, LINK_CERTIFICATE, TIMED, TYPED_PLAN}
+use Rattle.run_inputs.specs.declared.reader.TheConstants.{DESCRIPTION, TIMING, CERTIFICATE, LINK_CERTIFICATE, TIMED, TYPED_PLAN, ANY_FILE}
 
 pub record Label : Type 0 where
   pub name : List ℕ
@@ -22,3 +22,4 @@ reader_label reader.Certificate = label CERTIFICATE
 reader_label reader.LinkCertificate = label LINK_CERTIFICATE
 reader_label reader.Timed = label TIMED
 reader_label reader.TypedPlan = label TYPED_PLAN
+reader_label reader.AnyFile = label ANY_FILE

@@ -1,5 +1,5 @@
 -- The files that a command reads, one after the other. What a file holds is a function of its name, with the bytes where they are told.
-use Rattle.std.specs.Prelude.{◌≡◌, ◌⊎◌, ℕ, ◌+◌, ◌≤◌, List, [], ◌∷◌, length, Option, None, IfOk, IfSome, IsSome, OnErr, Result, Ok, Err}
+use Rattle.std.specs.Prelude.{◌≡◌, ◌⊎◌, ℕ, ◌+◌, ◌<◌, ◌≤◌, false, List, [], ◌∷◌, length, Option, None, IfOk, IfSome, IsSome, OnErr, Result, Ok, Err}
 use Rattle.narrow_fraction.specs.declared.memory.Memory.{Memory}
 use Rattle.outer_edge.specs.Counts.{NoneFell, SameCounts, CountedAt}
 use Rattle.outer_edge.specs.Held.{BeginsWith, SameFiles}
@@ -14,10 +14,10 @@ use Rattle.certificate_model.specs.Warrants.{Warrant}
 use Rattle.plan_text.specs.CertificateReading.{certificate_of}
 use Rattle.plan_text.specs.declared.fault.BadText.{BadText}
 use Rattle.link_proof.specs.LinkWarrants.{LinkWarrant, links_of}
-use Rattle.run_inputs.specs.Timed.{timed_of}
+use Rattle.run_inputs.specs.Timed.{timed_of, is_certificate}
 use Rattle.run_inputs.specs.Lines.{refused_line, bad_text_line, cannot_read_line, too_long_line}
 use Rattle.run_inputs.specs.declared.reader.Reader.{Reader}
-use Rattle.run_inputs.specs.declared.reader.Reader.TheVariants.{Description, Timing, Certificate, LinkCertificate, Timed, TypedPlan}
+use Rattle.run_inputs.specs.declared.reader.Reader.TheVariants.{Description, Timing, Certificate, LinkCertificate, Timed, TypedPlan, AnyFile}
 use Rattle.run_inputs.specs.declared.found.Found.{Found}
 use Rattle.run_inputs.specs.declared.found.Unread.{Unread}
 use Rattle.run_inputs.specs.declared.found.Unread.TheVariants as unread
@@ -33,6 +33,7 @@ Value Certificate = Warrant
 Value LinkCertificate = LinkWarrant
 Value Timed = Option TimingRecord
 Value TypedPlan = Typed
+Value AnyFile = List ℕ
 
 -- the most bytes of a description and of a certificate
 abbrev pub most_described : ℕ
@@ -49,6 +50,12 @@ most_bytes Certificate = most_certified
 most_bytes LinkCertificate = most_certified
 most_bytes Timed = most_certified
 most_bytes TypedPlan = 1048576
+most_bytes AnyFile = most_certified
+
+-- the bytes are too many for what they begin with: where any file is read, only a certificate may have more than a description
+abbrev pub IsLongFor : Reader → List ℕ → Type 0
+IsLongFor AnyFile bytes = (most_described < length bytes) × (is_certificate bytes ≡ false)
+IsLongFor r bytes = ⊥
 
 -- which value the bytes are read as
 abbrev pub IsReadAs : (r : Reader) → List ℕ → Value r → Type 0
@@ -58,6 +65,7 @@ IsReadAs Certificate bytes w = certificate_of bytes ≡ Ok w
 IsReadAs LinkCertificate bytes w = links_of bytes ≡ Ok w
 IsReadAs Timed bytes t = timed_of bytes ≡ Ok t
 IsReadAs TypedPlan bytes p = GivesPlan bytes p
+IsReadAs AnyFile bytes b = (b ≡ bytes) × ¬ IsLongFor AnyFile bytes
 
 -- ---- refusals
 -- this is the fault of the bytes
@@ -77,6 +85,7 @@ IsRefusedFor Certificate bytes c lines = IsBadText certificate_of bytes c lines
 IsRefusedFor LinkCertificate bytes c lines = IsBadText links_of bytes c lines
 IsRefusedFor Timed bytes c lines = IsBadText timed_of bytes c lines
 IsRefusedFor TypedPlan bytes c lines = HasFault GivesNone bytes c lines
+IsRefusedFor AnyFile bytes c lines = ⊥
 
 -- ---- one file
 pub record Input : Type 0 where
@@ -109,12 +118,16 @@ Describes held a = HasBytes most_described held (λ bytes. Described bytes a)
 abbrev pub Reads : (r : Reader) → Option (List ℕ) → Value r → Type 0
 Reads r held v = HasBytes (most_bytes r) held (λ bytes. IsReadAs r bytes v)
 
--- Why the file that a command reads at this place isn't read, and the line of that. A read failed and was counted; or one more byte than the limit was
--- taken; or the bytes are refused. `before` and `after` count the failed reads of each name.
+-- one more byte than the limit was taken, or the file is too long for what it begins with
+abbrev pub IsTooLong : Reader → Option (List ℕ) → Type 0
+IsTooLong r held = BeginsWith (most_bytes r + 1) held ⊎ HasBytes (most_bytes r) held (IsLongFor r)
+
+-- Why the file that a command reads at this place isn't read, and the line of that. A read failed and was counted; or the file is too long; or
+-- the bytes are refused. `before` and `after` count the failed reads of each name.
 abbrev pub IsUnread : Input → ℕ → (List ℕ → Option (List ℕ)) → (List ℕ → ℕ) → (List ℕ → ℕ) → Cause → List ℕ → Type 0
 IsUnread i place held before after (cause.ReadFault file) lines = (file ≡ place) × CountedAt before after i.name × (lines ≡ cannot_read_line i.name)
 IsUnread i place held before after (cause.TooLong file) lines =
-    (file ≡ place) × SameCounts before after × BeginsWith (most_bytes i.reader + 1) (held i.name) × (lines ≡ too_long_line i.name)
+    (file ≡ place) × SameCounts before after × IsTooLong i.reader (held i.name) × (lines ≡ too_long_line i.name)
 IsUnread i place held before after c lines = SameCounts before after × HasBytes (most_bytes i.reader) (held i.name) (λ bytes. IsRefusedFor i.reader bytes c lines)
 
 -- ---- all files

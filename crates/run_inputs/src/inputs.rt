@@ -61,7 +61,10 @@ fn read_at<T: Readable, F: Files>(
     ensures kept { LeavesFiles F.Files files.old files.new }
 {
     let bytes = bytes_of::<T, F>(alloc, files, name, place)?;
-    T::read(alloc, bytes.as_slice())
+    if T::are_too_many(bytes.as_slice()) {
+        return Err(too_long(alloc, name, place));
+    }
+    T::read(alloc, bytes)
 }
 
 /// Values that files are read as, the first in the first place: `(Artery, (Timing, ()))` are an artery and a timing.

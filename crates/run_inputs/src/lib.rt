@@ -25,10 +25,10 @@ mod readable;
 mod reader;
 
 pub use cause::{Cause, NO_WORDS, Status};
-pub use cycles::{are_cycles, cycles_in};
+pub use cycles::{Cycle, are_spelled, cycles_in};
 pub use found::{Found, Unread, told};
 pub use inputs::Inputs;
-pub use lines::{cannot_read_bytes, push_numbered, refused_line, words_line};
+pub use lines::{bad_text_line, cannot_read_bytes, push_numbered, refused_line, words_line};
 pub use numbers::{USUAL_WORK, limit_in, seed_in, signals_in};
-pub use readable::{Readable, Timed};
+pub use readable::{AnyFile, Readable, Timed};
 pub use reader::{Label, Reader};

@@ -36,7 +36,7 @@ pub fn limit_in(word: &str) -> Option<Option<u64>>
 }
 
 /// The number in these limits that a word spells: digits without a leading zero, except `0` alone.
-fn number_within(word: &str, least: u64, most: u64) -> Option<u64>
+pub(crate) fn number_within(word: &str, least: u64, most: u64) -> Option<u64>
     ensures number { result ≡ number_within least most word.now }
     ensures most { IfSome result (λ number. number ≤ most) }
 {

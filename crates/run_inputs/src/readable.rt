@@ -1,15 +1,15 @@
 //! What a file can be read as.
 
-ghost use Rattle.std.specs.Prelude.{◌≡◌, ◌<◌, ◌^◌, None, IfOk, IfErr};
-ghost use Rattle.run_inputs.specs.{Lines.{refused_line, bad_text_line}, Timed.{is_timing}};
-ghost use Rattle.run_inputs.specs.Reading.{Value, most_bytes, end_of, IsReadAs, IsRefusedFor};
+ghost use Rattle.std.specs.Prelude.{◌≡◌, ◌↔◌, ◌<◌, ◌^◌, None, IfOk, IfErr, IsTrue};
+ghost use Rattle.run_inputs.specs.{Lines.{refused_line, bad_text_line}, Timed.{is_timing, is_certificate}};
+ghost use Rattle.run_inputs.specs.Reading.{Value, most_bytes, end_of, IsReadAs, IsRefusedFor, IsLongFor};
 ghost use Rattle.run_inputs.specs.declared.reader.Reader.{Reader};
 ghost use Rattle.run_inputs.specs.declared.reader.Reader.TheVariants as reader;
 
 use crate::cause::Cause;
 use crate::found::{Unread, told};
 use crate::lines::{bad_text_line, refused_line};
-use crate::reader::Reader;
+use crate::reader::{Reader, SHORT_FILE};
 use artery_model::{Artery, Flaw, Refusal};
 use description_reader::{TypedPlan, read_artery, read_plan};
 use link_proof::{LinkCertificate, read_links};
@@ -30,10 +30,15 @@ pub trait Readable: Drop {
         ensures most { result ≡ most_bytes reader }
         ensures few { result < 2 ^ 63 };
 
+    /// Whether bytes within that limit are too many for what they begin with.
+    fn are_too_many(bytes: &[u8]) -> bool
+        ensures { IsTrue result ↔ IsLongFor reader bytes.now };
+
     /// The value that the bytes are read as, or why they are refused.
-    fn read(alloc: Global, bytes: &[u8]) -> Result<Self, Unread>
-        ensures value { IfOk result (λ v. IsReadAs reader bytes.now (value v)) }
-        ensures refused { IfErr result (λ end. IfOk (end_of end) (λ a. IsRefusedFor reader bytes.now a.cause a.lines.items)) }
+    fn read(alloc: Global, bytes: Vec<u8>) -> Result<Self, Unread>
+        requires { IsLongFor reader bytes.items → ⊥ }
+        ensures value { IfOk result (λ v. IsReadAs reader bytes.items (value v)) }
+        ensures refused { IfErr result (λ end. IfOk (end_of end) (λ a. IsRefusedFor reader bytes.items a.cause a.lines.items)) }
         ensures no_put { IfErr result (λ end. IfOk (end_of end) (λ a. a.bytes ≡ None)) };
 }
 
@@ -71,8 +76,12 @@ impl Readable for Artery {
         Reader::Description.most_bytes()
     }
 
-    fn read(alloc: Global, bytes: &[u8]) -> Result<Artery, Unread> {
-        match read_artery(alloc, bytes) {
+    fn are_too_many(_bytes: &[u8]) -> bool {
+        false
+    }
+
+    fn read(alloc: Global, bytes: Vec<u8>) -> Result<Artery, Unread> {
+        match read_artery(alloc, bytes.as_slice()) {
             Ok(artery) => Ok(artery),
             Err(Flaw::Refused(refusal)) => Err(refused(alloc, refusal)),
             Err(Flaw::Memory) => Err(Unread::Memory),
@@ -90,8 +99,12 @@ impl Readable for TypedPlan {
         Reader::TypedPlan.most_bytes()
     }
 
-    fn read(alloc: Global, bytes: &[u8]) -> Result<TypedPlan, Unread> {
-        match read_plan(alloc, bytes) {
+    fn are_too_many(_bytes: &[u8]) -> bool {
+        false
+    }
+
+    fn read(alloc: Global, bytes: Vec<u8>) -> Result<TypedPlan, Unread> {
+        match read_plan(alloc, bytes.as_slice()) {
             Ok(plan) => Ok(plan),
             Err(Flaw::Refused(refusal)) => Err(refused(alloc, refusal)),
             Err(Flaw::Memory) => Err(Unread::Memory),
@@ -108,8 +121,12 @@ impl Readable for Timing {
         Reader::Timing.most_bytes()
     }
 
-    fn read(alloc: Global, bytes: &[u8]) -> Result<Timing, Unread> {
-        match read_timing(alloc, bytes) {
+    fn are_too_many(_bytes: &[u8]) -> bool {
+        false
+    }
+
+    fn read(alloc: Global, bytes: Vec<u8>) -> Result<Timing, Unread> {
+        match read_timing(alloc, bytes.as_slice()) {
             Ok(timing) => Ok(timing),
             Err(TextEnd::Bad(bad)) => Err(bad_text(alloc, bad)),
             Err(TextEnd::Memory) => Err(Unread::Memory),
@@ -126,8 +143,12 @@ impl Readable for Certificate {
         Reader::Certificate.most_bytes()
     }
 
-    fn read(alloc: Global, bytes: &[u8]) -> Result<Certificate, Unread> {
-        match read_certificate(alloc, bytes) {
+    fn are_too_many(_bytes: &[u8]) -> bool {
+        false
+    }
+
+    fn read(alloc: Global, bytes: Vec<u8>) -> Result<Certificate, Unread> {
+        match read_certificate(alloc, bytes.as_slice()) {
             Ok(certificate) => Ok(certificate),
             Err(TextEnd::Bad(bad)) => Err(bad_text(alloc, bad)),
             Err(TextEnd::Memory) => Err(Unread::Memory),
@@ -157,9 +178,13 @@ impl Readable for Timed {
         Reader::Timed.most_bytes()
     }
 
+    fn are_too_many(_bytes: &[u8]) -> bool {
+        false
+    }
+
     #[tactic(auto, using(crate::proofs::Timing::timing_read, crate::proofs::Timing::certificate_read))]
-    fn read(alloc: Global, bytes: &[u8]) -> Result<Timed, Unread> {
-        if is_timing(bytes) {
+    fn read(alloc: Global, bytes: Vec<u8>) -> Result<Timed, Unread> {
+        if is_timing(bytes.as_slice()) {
             let plan = <Timing as Readable>::read(alloc, bytes)?;
             return Ok(Timed { timing: Some(plan) });
         }
@@ -178,11 +203,48 @@ impl Readable for LinkCertificate {
         Reader::LinkCertificate.most_bytes()
     }
 
-    fn read(alloc: Global, bytes: &[u8]) -> Result<LinkCertificate, Unread> {
-        match read_links(alloc, bytes) {
+    fn are_too_many(_bytes: &[u8]) -> bool {
+        false
+    }
+
+    fn read(alloc: Global, bytes: Vec<u8>) -> Result<LinkCertificate, Unread> {
+        match read_links(alloc, bytes.as_slice()) {
             Ok(certificate) => Ok(certificate),
             Err(TextEnd::Bad(bad)) => Err(bad_text(alloc, bad)),
             Err(TextEnd::Memory) => Err(Unread::Memory),
         }
+    }
+}
+
+/// The bytes of a file of any kind.
+#[derive(Drop)]
+pub struct AnyFile {
+    pub bytes: Vec<u8>,
+}
+
+/// Whether the first line is that of a certificate, in either format, or of one of links.
+fn is_certificate(bytes: &[u8]) -> bool
+    ensures { result ≡ is_certificate bytes.now }
+{
+    bytes.starts_with(b"maxband-certificate 1\n")
+        || bytes.starts_with(b"maxband-certificate 2\n")
+        || bytes.starts_with(b"maxband-links 1\n")
+}
+
+impl Readable for AnyFile {
+    ghost reader = { reader.AnyFile };
+
+    ghost value = { λ file. file.bytes.items };
+
+    fn most_bytes() -> u64 {
+        Reader::AnyFile.most_bytes()
+    }
+
+    fn are_too_many(bytes: &[u8]) -> bool {
+        SHORT_FILE < bytes.len() as u64 && !is_certificate(bytes)
+    }
+
+    fn read(_alloc: Global, bytes: Vec<u8>) -> Result<AnyFile, Unread> {
+        Ok(AnyFile { bytes })
     }
 }

@@ -16,6 +16,8 @@ pub enum Reader {
     Timed,
     /// A plan as people type it, in seconds.
     TypedPlan,
+    /// A file of any kind, as its bytes.
+    AnyFile,
 }
 
 /// What stands for a word in a usage, and what that word is.
@@ -36,8 +38,13 @@ pub const TIMED: Label = (
 
 pub const TYPED_PLAN: Label = ("PLAN", "a plan typed in seconds");
 
+pub const ANY_FILE: Label = (
+    "FILE",
+    "a description, a timing or a typed plan of at most 1048576 bytes, or a certificate of either kind",
+);
+
 /// The most bytes of a description, a timing or a typed plan.
-const SHORT_FILE: u64 = 1_048_576;
+pub(crate) const SHORT_FILE: u64 = 1_048_576;
 
 /// The most bytes of a certificate of either kind.
 const LONG_FILE: u64 = 268_435_456;
@@ -55,6 +62,7 @@ impl Reader {
             Reader::LinkCertificate => LINK_CERTIFICATE,
             Reader::Timed => TIMED,
             Reader::TypedPlan => TYPED_PLAN,
+            Reader::AnyFile => ANY_FILE,
         }
     }
 
@@ -65,7 +73,8 @@ impl Reader {
     {
         match self {
             Reader::Description | Reader::Timing | Reader::TypedPlan => SHORT_FILE,
-            Reader::Certificate | Reader::LinkCertificate | Reader::Timed => LONG_FILE,
+            Reader::Certificate | Reader::LinkCertificate => LONG_FILE,
+            Reader::Timed | Reader::AnyFile => LONG_FILE,
         }
     }
 }

@@ -5,10 +5,10 @@ use Rattle.run_inputs.proofs.readable.TimedReadable.read.Goals as goal
 
 pub returns-in_err-plan-clause-refused : goal.returns-in_err-plan-clause-refused
 returns-in_err-plan-clause-refused c =
-    let first : is_timing c.args.bytes.now ≡ true = search rules in
-    let told = timing_refused c.args.bytes.now c.in_err-plan.field-0.0 first c.in_err-plan.ensures.refused in search (rules, told)
+    let first : is_timing c.args.bytes.items ≡ true = search rules in
+    let told = timing_refused c.args.bytes.items c.in_err-plan.field-0.0 first c.in_err-plan.ensures.refused in search (rules, told)
 
 pub returns-in_err-warrant-clause-refused : goal.returns-in_err-warrant-clause-refused
 returns-in_err-warrant-clause-refused c =
-    let other : is_timing c.args.bytes.now ≡ false = search rules in
-    let told = certificate_refused c.args.bytes.now c.in_err-warrant.field-0.0 other c.in_err-warrant.ensures.refused in search (rules, told)
+    let other : is_timing c.args.bytes.items ≡ false = search rules in
+    let told = certificate_refused c.args.bytes.items c.in_err-warrant.field-0.0 other c.in_err-warrant.ensures.refused in search (rules, told)
