@@ -14,7 +14,7 @@ use Rattle.run_inputs.specs.declared.found.Found.{Found}
 use Rattle.run_inputs.specs.declared.found.Unread.{Unread}
 use Rattle.run_inputs.specs.declared.found.Unread.TheVariants as stop
 use Rattle.run_inputs.specs.declared.reader.Reader.{Reader}
-use Rattle.run_inputs.specs.declared.reader.Reader.TheVariants.{Description, Timing, Certificate, LinkCertificate, Timed, TypedPlan}
+use Rattle.run_inputs.specs.declared.reader.Reader.TheVariants.{Description, Timing, Certificate, LinkCertificate, Timed, TypedPlan, AnyFile}
 use Rattle.run_commands.specs.Requested.{value_as, both, values_as, FindsAs}
 use Rattle.run_commands.specs.Settings.{Settings}
 use Rattle.run_commands.specs.Table.{readers, Finds, IsOwnEnd}
@@ -30,6 +30,7 @@ same_value Certificate v = refl
 same_value LinkCertificate v = refl
 same_value Timed v = refl
 same_value TypedPlan v = refl
+same_value AnyFile v = refl
 
 same_values : (rs : List Reader) (v : Values rs) → values_as rs rs v ≡ Some v
 same_values [] v = refl

@@ -11,6 +11,7 @@ use run_commands::bands::Bands;
 use run_commands::check::Check;
 use run_commands::check_links::CheckLinks;
 use run_commands::draw::Draw;
+use run_commands::explain::Explain;
 use run_commands::half::Half;
 use run_commands::help::{Help, Version};
 use run_commands::hold::Hold;
@@ -26,6 +27,7 @@ use run_commands::solve::Solve;
 use run_commands::sweep::Sweep;
 use run_commands::trial::Trial;
 use run_commands::typed::TimingOf;
+use run_commands::whole::Whole;
 use run_commands::{Command, Request, Usage};
 use run_inputs::{Cause, Found, Inputs, Unread, told, words_line};
 use std::alloc::Global;
@@ -81,6 +83,7 @@ fn answer_by<F: Files>(
         Usage::Bands => answer_of::<Bands, F>(alloc, request, files),
         Usage::Round => answer_of::<Round, F>(alloc, request, files),
         Usage::RoundFrom => answer_of::<RoundFrom, F>(alloc, request, files),
+        Usage::Whole => answer_of::<Whole, F>(alloc, request, files),
         Usage::Half => answer_of::<Half, F>(alloc, request, files),
         Usage::TimingOf => answer_of::<TimingOf, F>(alloc, request, files),
         Usage::Draw => answer_of::<Draw, F>(alloc, request, files),
@@ -90,6 +93,7 @@ fn answer_by<F: Files>(
         Usage::CheckLinks => answer_of::<CheckLinks, F>(alloc, request, files),
         Usage::Hold => answer_of::<Hold, F>(alloc, request, files),
         Usage::Show => answer_of::<Show, F>(alloc, request, files),
+        Usage::Explain => answer_of::<Explain, F>(alloc, request, files),
         Usage::Narrow => answer_of::<Narrow, F>(alloc, request, files),
         Usage::Widen => answer_of::<Widen, F>(alloc, request, files),
         Usage::Make => answer_of::<Make, F>(alloc, request, files),

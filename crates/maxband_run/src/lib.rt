@@ -2,7 +2,7 @@
 //! Commands find best timings of the signals of one artery (`solve`), also at each of several cycles (`sweep`), or best ones with a
 //! band for each link (`links`), with certificates of what is claimed of all its good timings (`check`, `check-links`); test
 //! timings against its time-space diagram (`hold`), measure their bands (`bands`) and draw them (`draw`); make timings of plans
-//! typed in seconds (`timing`), plans in whole seconds (`round`, `round-from`) and of half cycles (`half`); write the canonical
+//! typed in seconds (`timing`), plans in whole seconds (`whole`, `round`, `round-from`) and of half cycles (`half`); tell in words what a file is (`explain`); write the canonical
 //! description of an artery (`show`) and certificates in the second format (`renew`); make arteries from a seed, to be described
 //! (`make`) or searched (`trial`); and tell the program's usages (`--help`) and what it reads (`--version`).
 //!

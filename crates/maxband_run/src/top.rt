@@ -49,7 +49,7 @@ fn output_of(request: Option<Request<'_>>) -> Option<&str>
 /// The status has its cause: what the bytes of the files are, which are those that they held at entry where they tell them, what
 /// is made from a seed, or which failed call was counted. The output grew by exactly that answer's lines, and no file changed but
 /// that `solve` or `links` put the text of its certificate, which is read back as the very certificate that was accepted, `renew`
-/// that of the certificate that it read, `round`, `round-from` or `half` that of its plan, `timing` that of the typed plan's timing,
+/// that of the certificate that it read, `whole`, `round`, `round-from` or `half` that of its plan, `timing` that of the typed plan's timing,
 /// `draw` its picture, or `sweep` its table. What a command reads and puts stands in its row. Each call that failed and was
 /// counted is told by the status: after any other no count has changed. After `Memory` no file changed and nothing was written;
 /// after `WriteFault` either the put failed and nothing was written, or a front of the lines of the answer that was reached went

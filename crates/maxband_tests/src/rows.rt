@@ -8,12 +8,13 @@ use std::test::Fail;
 
 /// In the order of the help: the word, what the files are read as, `NEW` where the next word names a file that may be put, the words behind, and
 /// `*` where any of several best answers may be told.
-static ROWS: [&str; 22] = [
+static ROWS: [&str; 24] = [
     "solve STREET NEW [WORK] *",
     "check STREET CERT",
     "bands STREET TIMING",
     "round STREET CERT NEW",
     "round-from STREET CERT FILE NEW",
+    "whole STREET CERT NEW [CYCLE ..] *",
     "half STREET TIMING NEW *",
     "timing STREET PLAN NEW",
     "draw STREET FILE NEW [TITLE]",
@@ -23,6 +24,7 @@ static ROWS: [&str; 22] = [
     "check-links STREET LINKS",
     "hold STREET TIMING",
     "show STREET",
+    "explain ANY",
     "narrow STREET NEW",
     "widen STREET NEW",
     "make SIGNALS SEED",
@@ -41,6 +43,7 @@ fn file_word(reader: Reader) -> &'static str {
         Reader::LinkCertificate => " LINKS",
         Reader::Timed => " FILE",
         Reader::TypedPlan => " PLAN",
+        Reader::AnyFile => " ANY",
     }
 }
 
@@ -51,6 +54,7 @@ fn setting_word(setting: Setting) -> &'static str {
         Setting::Limit => " WORK",
         Setting::Work => " [WORK]",
         Setting::Cycles => " CYCLE ..",
+        Setting::WholeCycles => " [CYCLE ..]",
         Setting::Title => " [TITLE]",
         Setting::Reference => " [REFERENCE]",
         Setting::Word => " [WORD]",

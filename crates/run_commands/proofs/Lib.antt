@@ -1,6 +1,7 @@
 mod Below
 pub mod Planning
 mod Bounding
+mod Explained
 pub mod Pushed
 pub mod Shaped
 pub mod Tried
@@ -8,3 +9,4 @@ pub mod Typing
 pub mod Room
 pub mod Limits
 pub mod Ending
+mod Wholes

@@ -9,17 +9,17 @@ use Rattle.work_meter.specs.Work.{IsBelow}
 use Rattle.artery_model.specs.Limits.{is_name}
 use Rattle.description_reader.specs.References.{reference_named}
 use Rattle.description_reader.specs.declared.measure.Reference as moment
-use Rattle.run_inputs.specs.Cycles.{spells_cycle, are_cycles, SpellCycles}
+use Rattle.run_inputs.specs.Cycles.{cycle_of, seconds_of, spells, are_spelled, Spell}
 use Rattle.run_inputs.specs.Numbers.{number_within, signals_of, seed_of, limit_of}
 use Rattle.run_inputs.proofs.Spelled.{in_limits}
 use Rattle.run_inputs.proofs.Cycling.{cycles_spelled}
 use Rattle.run_commands.specs.declared.settings.Setting.{Setting}
-use Rattle.run_commands.specs.declared.settings.Setting.TheVariants.{Signals, Seed, Limit, Work, Cycles, Title, Reference, Word}
+use Rattle.run_commands.specs.declared.settings.Setting.TheVariants.{Signals, Seed, Limit, Work, Cycles, WholeCycles, Title, Reference, Word}
 use Rattle.run_commands.specs.declared.table.Usage.{Usage}
 use Rattle.run_commands.specs.declared.table.TheConstants.{USAGES}
 use Rattle.run_commands.specs.Settings.{Settings, unsaid, InLimits}
 use Rattle.run_commands.specs.Table.{row, readers}
-use Rattle.run_commands.specs.Words.{named, said, may_be_left_out, takes_all, cycles_said, none_left, all_said, Request, request, with_output, asked_with, request_of}
+use Rattle.run_commands.specs.Words.{named, said, may_be_left_out, takes_all, all_left, none_left, all_said, Request, request, with_output, asked_with, request_of}
 use Rattle.run_commands.specs.Requested.{IsFit}
 
 limit_low : (all : Bool) (number : Option ℕ) → ((n : ℕ) → number ≡ Some n → 1 ≤ n) → (limit : Option ℕ)
@@ -38,28 +38,28 @@ some_limit w limit e = limit_low (bytes_eq w (codes "all")) (number_within 1 (2 
 with_limit : (o : Option (Option ℕ)) (s : Settings) → ((l : Option ℕ) → o ≡ Some l → IsBelow 0 l) → InLimits s
     → IfSome (option_map (λ (n : Option ℕ). record s { limit = n }) o) InLimits
 with_limit None s h k = tt
-with_limit (Some l) s h k = record { limit = h l refl; least = k.least; most = k.most; cycles = k.cycles; title = k.title }
+with_limit (Some l) s h k = record { limit = h l refl; least = k.least; most = k.most; cycles = k.cycles; whole_cycles = k.whole_cycles; title = k.title }
 
 with_signals : (o : Option ℕ) (s : Settings) → ((n : ℕ) → o ≡ Some n → (2 ≤ n) × (n ≤ 16)) → InLimits s
     → IfSome (option_map (λ (n : ℕ). record s { signals = n }) o) InLimits
 with_signals None s h k = tt
-with_signals (Some n) s h k = let l = h n refl in record { limit = k.limit; least = l.0; most = l.1; cycles = k.cycles; title = k.title }
+with_signals (Some n) s h k = let l = h n refl in record { limit = k.limit; least = l.0; most = l.1; cycles = k.cycles; whole_cycles = k.whole_cycles; title = k.title }
 
 with_seed : (o : Option ℕ) (s : Settings) → InLimits s → IfSome (option_map (λ (n : ℕ). record s { seed = n }) o) InLimits
 with_seed None s k = tt
-with_seed (Some n) s k = record { limit = k.limit; least = k.least; most = k.most; cycles = k.cycles; title = k.title }
+with_seed (Some n) s k = record { limit = k.limit; least = k.least; most = k.most; cycles = k.cycles; whole_cycles = k.whole_cycles; title = k.title }
 
 with_title : (w : List ℕ) (s : Settings) (fit : Bool) → is_name w ≡ fit → InLimits s → IfSome (if fit then Some (record s { title = Some w }) else None) InLimits
-with_title w s true e k = record { limit = k.limit; least = k.least; most = k.most; cycles = k.cycles; title = e }
+with_title w s true e k = record { limit = k.limit; least = k.least; most = k.most; cycles = k.cycles; whole_cycles = k.whole_cycles; title = e }
 with_title w s false e k = tt
 
 with_reference : (o : Option moment.Reference) (s : Settings) → InLimits s → IfSome (option_map (λ (r : moment.Reference). record s { reference = r }) o) InLimits
 with_reference None s k = tt
-with_reference (Some r) s k = record { limit = k.limit; least = k.least; most = k.most; cycles = k.cycles; title = k.title }
+with_reference (Some r) s k = record { limit = k.limit; least = k.least; most = k.most; cycles = k.cycles; whole_cycles = k.whole_cycles; title = k.title }
 
 with_about : (o : Option Usage) (s : Settings) → InLimits s → IfSome (option_map (λ (u : Usage). record s { about = Some u }) o) InLimits
 with_about None s k = tt
-with_about (Some u) s k = record { limit = k.limit; least = k.least; most = k.most; cycles = k.cycles; title = k.title }
+with_about (Some u) s k = record { limit = k.limit; least = k.least; most = k.most; cycles = k.cycles; whole_cycles = k.whole_cycles; title = k.title }
 
 said_limits : (k : Setting) (w : List ℕ) (s : Settings) → InLimits s → IfSome (said k w s) InLimits
 said_limits Signals w s h = with_signals (signals_of w) s (in_limits 2 16 w) h
@@ -67,6 +67,7 @@ said_limits Seed w s h = with_seed (seed_of w) s h
 said_limits Limit w s h = with_limit (limit_of w) s (some_limit w) h
 said_limits Work w s h = with_limit (limit_of w) s (some_limit w) h
 said_limits Cycles w s h = tt
+said_limits WholeCycles w s h = tt
 said_limits Word w s h = with_about (named USAGES w) s h
 said_limits Title w s h = with_title w s (is_name w) refl h
 said_limits Reference w s h = with_reference (reference_named w) s h
@@ -89,22 +90,40 @@ either : (b : Bool) (x y : Option Settings) → IfSome x InLimits → IfSome y I
 either true x y h k = h
 either false x y h k = k
 
-cycles_limits : (ws : List (List ℕ)) (s : Settings) (fit : Bool) → (fit ≡ true → SpellCycles ws) → InLimits s
+cycles_limits : (ws : List (List ℕ)) (s : Settings) (fit : Bool) → (fit ≡ true → Spell cycle_of ws) → InLimits s
     → IfSome (if fit then Some (record s { cycles = ws }) else None) InLimits
-cycles_limits ws s true h k = record { limit = k.limit; least = k.least; most = k.most; cycles = h refl; title = k.title }
+cycles_limits ws s true h k = record { limit = k.limit; least = k.least; most = k.most; cycles = h refl; whole_cycles = k.whole_cycles; title = k.title }
 cycles_limits ws s false h k = tt
+
+seconds_limits : (ws : List (List ℕ)) (s : Settings) (fit : Bool) → (fit ≡ true → Spell seconds_of ws) → InLimits s
+    → IfSome (if fit then Some (record s { whole_cycles = ws }) else None) InLimits
+seconds_limits ws s true h k = record { limit = k.limit; least = k.least; most = k.most; cycles = k.cycles; whole_cycles = h refl; title = k.title }
+seconds_limits ws s false h k = tt
+
+left_limits : (k : Setting) (ws : List (List ℕ)) (s : Settings) → InLimits s → IfSome (all_left k ws s) InLimits
+left_limits Cycles ws s h = cycles_limits ws s (are_spelled cycle_of ws) (cycles_spelled cycle_of ws) h
+left_limits WholeCycles ws s h = seconds_limits ws s (are_spelled seconds_of ws) (cycles_spelled seconds_of ws) h
+left_limits k ws s h = tt
 
 all_limits : (ks : List Setting) (ws : List (List ℕ)) (s : Settings) → InLimits s → IfSome (all_said ks ws s) InLimits
 all_limits [] [] s h = h
 all_limits [] (w ∷ ws) s h = tt
 all_limits (k ∷ ks) (w ∷ ws) s h =
-    either (takes_all k) (cycles_said (w ∷ ws) s) (option_and_then (all_said ks ws) (said k w s))
-    (cycles_limits (w ∷ ws) s (are_cycles (w ∷ ws)) (cycles_spelled (w ∷ ws)) h)
+    either (takes_all k) (all_left k (w ∷ ws) s) (option_and_then (all_said ks ws) (said k w s))
+    (left_limits k (w ∷ ws) s h)
     (after InLimits InLimits (said k w s) (all_said ks ws) (said_limits k w s h) (all_limits ks ws))
 all_limits (k ∷ ks) [] s h = if_limits (may_be_left_out k && none_left ks) s h
 
 unsaid_limits : InLimits unsaid
-unsaid_limits = record { limit = omega arith; least = omega arith; most = omega arith; cycles = All-nil (λ word. spells_cycle word ≡ true); title = tt }
+unsaid_limits = record {
+  limit = omega arith;
+  least = omega arith;
+  most = omega arith;
+  cycles = All-nil (λ word. spells cycle_of word ≡ true);
+  whole_cycles = All-nil
+      (λ word. spells seconds_of word ≡ true);
+  title = tt;
+}
 
 said_limits_of : (u : Usage) (ws : List (List ℕ)) → IfSome (all_said (row u).settings ws unsaid) InLimits
 said_limits_of u ws = all_limits (row u).settings ws unsaid unsaid_limits

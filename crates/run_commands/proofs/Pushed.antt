@@ -30,3 +30,14 @@ end_pushed old a b c d end x1 x2 e1 e2 =
     ∙ append_assoc old (a ++ (b ++ (c ++ d))) end
     ∙ ap (λ (y : List ℕ). old ++ y)
     (append_assoc a (b ++ (c ++ d)) end ∙ ap (λ (y : List ℕ). a ++ y) (append_assoc b (c ++ d) end ∙ ap (λ (y : List ℕ). b ++ y) (append_assoc c d end)))
+
+-- two pieces, and four
+pub two_pushed : (old a b x1 x2 : List ℕ) → x1 ≡ old ++ a → x2 ≡ x1 ++ b → x2 ≡ old ++ (a ++ b)
+two_pushed old a b x1 x2 e1 e2 = e2 ∙ ap (λ (y : List ℕ). y ++ b) e1 ∙ append_assoc old a b
+
+pub four_pushed : (old a b c d x1 x2 x3 x4 : List ℕ) → x1 ≡ old ++ a → x2 ≡ x1 ++ b → x3 ≡ x2 ++ c → x4 ≡ x3 ++ d → x4 ≡ old ++ (a ++ (b ++ (c ++ d)))
+four_pushed old a b c d x1 x2 x3 x4 e1 e2 e3 e4 =
+    e4
+    ∙ ap (λ (y : List ℕ). y ++ d) (three_pushed old x1 x2 x3 a b c e1 e2 e3)
+    ∙ append_assoc old (a ++ (b ++ c)) d
+    ∙ ap (λ (y : List ℕ). old ++ y) (append_assoc a (b ++ c) d ∙ ap (λ (y : List ℕ). a ++ y) (append_assoc b c d))

@@ -60,3 +60,10 @@ IsDrawingEnd cause.Done = Unit {0}
 IsDrawingEnd (cause.Fails rule.Shape) = Unit {0}
 IsDrawingEnd cause.Untimed = Unit {0}
 IsDrawingEnd c = ⊥
+
+-- a file is explained, or refused, whether as a document or as a text
+abbrev pub IsExplainEnd : Cause → Type 0
+IsExplainEnd cause.Done = Unit {0}
+IsExplainEnd (cause.Refused r) = Unit {0}
+IsExplainEnd (cause.BadText b) = Unit {0}
+IsExplainEnd c = ⊥

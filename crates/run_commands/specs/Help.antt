@@ -20,7 +20,7 @@ format_of (b ∷ bs) = if b == 32 then bs else format_of bs
 unfoldable pub version_text : List ℕ
 version_text =
     ended
-    (codes "maxband 1.2.0"
+    (codes "maxband 1.3.0"
     ∷ line_of (codes "descriptions" ∷ decimal first_version ∷ decimal second_version ∷ [])
     ∷ line_of (codes "plans" ∷ decimal plan_version ∷ [])
     ∷ line_of (codes "timings" ∷ format_of head_line ∷ [])

@@ -2,6 +2,7 @@ pub mod Lines
 pub mod CheckLines
 pub mod Hold
 pub mod Show
+pub mod Explain
 pub mod Sought
 pub mod Checked
 pub mod Check
@@ -12,6 +13,7 @@ pub mod Renew
 pub mod Bands
 pub mod Bound
 pub mod Round
+pub mod Whole
 pub mod Half
 pub mod Typed
 pub mod Shaped

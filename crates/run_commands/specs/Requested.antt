@@ -4,7 +4,7 @@ use Rattle.run_inputs.specs.Lines.{cannot_read_line}
 use Rattle.run_inputs.specs.Reading.{Value, Values}
 use Rattle.run_inputs.specs.declared.cause.Cause.{Cause}
 use Rattle.run_inputs.specs.declared.reader.Reader.{Reader}
-use Rattle.run_inputs.specs.declared.reader.Reader.TheVariants.{Description, Timing, Certificate, LinkCertificate, Timed, TypedPlan}
+use Rattle.run_inputs.specs.declared.reader.Reader.TheVariants.{Description, Timing, Certificate, LinkCertificate, Timed, TypedPlan, AnyFile}
 use Rattle.run_commands.specs.Settings.{Settings, InLimits}
 use Rattle.run_commands.specs.Table.{readers, Finds}
 use Rattle.run_commands.specs.Words.{Request}
@@ -28,6 +28,7 @@ value_as Certificate Certificate v = Some v
 value_as LinkCertificate LinkCertificate v = Some v
 value_as Timed Timed v = Some v
 value_as TypedPlan TypedPlan v = Some v
+value_as AnyFile AnyFile v = Some v
 value_as r s v = None
 
 abbrev pub both : (s : Reader) (ss : List Reader) → Option (Value s) → Option (Values ss) → Option (Values (s ∷ ss))

@@ -6,7 +6,7 @@ use Rattle.progression.specs.Street.{Street}
 use Rattle.cycle_sweep.specs.declared.row.SweepRow.{SweepRow}
 use Rattle.cycle_sweep.specs.Rows.{AreRows}
 use Rattle.cycle_sweep.specs.Table.{sweep_text}
-use Rattle.run_inputs.specs.Cycles.{AreCycles}
+use Rattle.run_inputs.specs.Cycles.{cycle_of, AreSpelled}
 use Rattle.run_inputs.specs.declared.cause.Cause.{Cause}
 use Rattle.run_inputs.specs.declared.cause.Cause.TheVariants as cause
 
@@ -17,7 +17,7 @@ rows_line n = codes "rows " ++ (decimal n ++ codes "\n")
 -- a row for each cycle that the words spell, each of a search within this limit, and the table of them
 pub record IsSweep (a : Street) (limit : Option ℕ) (words : List (List ℕ)) (c : Cause) (lines table : List ℕ) : Type 0 where
   pub cycles : List ℚ
-  pub cycles_are : AreCycles words cycles
+  pub cycles_are : AreSpelled cycle_of words cycles
   pub rows : List SweepRow
   pub rows_are : AreRows a limit cycles rows
   pub cause_is : c ≡ cause.Done

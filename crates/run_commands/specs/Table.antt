@@ -16,6 +16,9 @@ use Rattle.run_commands.specs.Links.{IsLinkSolution}
 use Rattle.run_commands.specs.Renew.{IsRenewal}
 use Rattle.run_commands.specs.Bands.{BandsFinds}
 use Rattle.run_commands.specs.Round.{RoundFinds, RoundFromFinds}
+use Rattle.run_inputs.specs.Cycles.{seconds_of, AreSpelled}
+use Rattle.run_commands.specs.Whole.{WholeFinds}
+use Rattle.run_commands.specs.Explain.{ExplainFinds}
 use Rattle.run_commands.specs.Half.{HalfFinds}
 use Rattle.run_commands.specs.Typed.{TypedFinds}
 use Rattle.run_commands.specs.Draw.{DrawFinds}
@@ -27,11 +30,11 @@ use Rattle.run_commands.specs.Make.{Makes}
 use Rattle.run_commands.specs.Trial.{IsTrial}
 use Rattle.run_commands.specs.Sweep.{IsSweep}
 use Rattle.run_commands.specs.Sensitivity.{IsSensitivity}
-use Rattle.run_commands.specs.Ends.{IsDone, IsVerdict, IsTestEnd, IsCheckEnd, IsLinkCheckEnd, IsRoundEnd, IsRoundFromEnd, IsHalfEnd, IsTypedEnd, IsDrawingEnd}
+use Rattle.run_commands.specs.Ends.{IsDone, IsVerdict, IsTestEnd, IsCheckEnd, IsLinkCheckEnd, IsRoundEnd, IsRoundFromEnd, IsHalfEnd, IsTypedEnd, IsDrawingEnd, IsExplainEnd}
 use Rattle.run_commands.specs.declared.table.Usage.{Usage}
-use Rattle.run_commands.specs.declared.table.Usage.TheVariants.{Solve, Check, Bands, Round, RoundFrom, Half, TimingOf, Draw, Sheet, Renew, Links, CheckLinks, Hold, Show, Narrow, Widen, Make, Trial, Sweep, Sensitivity, Help, Version}
-use Rattle.run_commands.specs.declared.table.TheConstants.{SOLVE, CHECK, BANDS, ROUND, ROUND_FROM, HALF, TIMING_OF, DRAW, SHEET, RENEW, LINKS, CHECK_LINKS, HOLD, SHOW, NARROW, WIDEN, MAKE, TRIAL, SWEEP, SENSITIVITY, HELP, VERSION, USAGES}
-use Rattle.run_commands.specs.declared.table.TheConstants.{SOLVE_PAGE, CHECK_PAGE, BANDS_PAGE, ROUND_PAGE, ROUND_FROM_PAGE, HALF_PAGE, TIMING_OF_PAGE, DRAW_PAGE, SHEET_PAGE, RENEW_PAGE, LINKS_PAGE, CHECK_LINKS_PAGE, HOLD_PAGE, SHOW_PAGE, NARROW_PAGE, WIDEN_PAGE, MAKE_PAGE, TRIAL_PAGE, SWEEP_PAGE, SENSITIVITY_PAGE, HELP_PAGE, VERSION_PAGE}
+use Rattle.run_commands.specs.declared.table.Usage.TheVariants.{Solve, Check, Bands, Round, RoundFrom, Whole, Half, TimingOf, Draw, Sheet, Renew, Links, CheckLinks, Hold, Show, Explain, Narrow, Widen, Make, Trial, Sweep, Sensitivity, Help, Version}
+use Rattle.run_commands.specs.declared.table.TheConstants.{SOLVE, CHECK, BANDS, ROUND, ROUND_FROM, WHOLE, HALF, TIMING_OF, DRAW, SHEET, RENEW, LINKS, CHECK_LINKS, HOLD, SHOW, EXPLAIN, NARROW, WIDEN, MAKE, TRIAL, SWEEP, SENSITIVITY, HELP, VERSION, USAGES}
+use Rattle.run_commands.specs.declared.table.TheConstants.{SOLVE_PAGE, CHECK_PAGE, BANDS_PAGE, ROUND_PAGE, ROUND_FROM_PAGE, WHOLE_PAGE, HALF_PAGE, TIMING_OF_PAGE, DRAW_PAGE, SHEET_PAGE, RENEW_PAGE, LINKS_PAGE, CHECK_LINKS_PAGE, HOLD_PAGE, SHOW_PAGE, EXPLAIN_PAGE, NARROW_PAGE, WIDEN_PAGE, MAKE_PAGE, TRIAL_PAGE, SWEEP_PAGE, SENSITIVITY_PAGE, HELP_PAGE, VERSION_PAGE}
 
 abbrev pub row : Usage → Row
 row Solve = row_of SOLVE
@@ -39,6 +42,7 @@ row Check = row_of CHECK
 row Bands = row_of BANDS
 row Round = row_of ROUND
 row RoundFrom = row_of ROUND_FROM
+row Whole = row_of WHOLE
 row Half = row_of HALF
 row TimingOf = row_of TIMING_OF
 row Draw = row_of DRAW
@@ -48,6 +52,7 @@ row Links = row_of LINKS
 row CheckLinks = row_of CHECK_LINKS
 row Hold = row_of HOLD
 row Show = row_of SHOW
+row Explain = row_of EXPLAIN
 row Narrow = row_of NARROW
 row Widen = row_of WIDEN
 row Make = row_of MAKE
@@ -63,6 +68,7 @@ page Check = page_of CHECK_PAGE
 page Bands = page_of BANDS_PAGE
 page Round = page_of ROUND_PAGE
 page RoundFrom = page_of ROUND_FROM_PAGE
+page Whole = page_of WHOLE_PAGE
 page Half = page_of HALF_PAGE
 page TimingOf = page_of TIMING_OF_PAGE
 page Draw = page_of DRAW_PAGE
@@ -72,6 +78,7 @@ page Links = page_of LINKS_PAGE
 page CheckLinks = page_of CHECK_LINKS_PAGE
 page Hold = page_of HOLD_PAGE
 page Show = page_of SHOW_PAGE
+page Explain = page_of EXPLAIN_PAGE
 page Narrow = page_of NARROW_PAGE
 page Widen = page_of WIDEN_PAGE
 page Make = page_of MAKE_PAGE
@@ -102,6 +109,7 @@ Finds Check v s c lines put = CheckFinds v.0 v.1.0 c lines
 Finds Bands v s c lines put = BandsFinds v.0 v.1.0 c lines
 Finds Round v s c lines put = RoundFinds v.0 v.1.0 c lines put
 Finds RoundFrom v s c lines put = RoundFromFinds v.0 v.1.0 v.1.1.0 c lines put
+Finds Whole v s c lines put = (named : List ℕ) × AreSpelled seconds_of s.whole_cycles named × WholeFinds v.0 v.1.0 named c lines put
 Finds Half v s c lines put = HalfFinds v.0 v.1.0 c lines put
 Finds TimingOf v s c lines put = TypedFinds v.0 v.1.0 c lines put
 Finds Draw v s c lines put = DrawFinds v.0 v.1.0 s.title c lines put
@@ -111,6 +119,7 @@ Finds Links v s c lines put = With (IsLinkSolution v.0 s.limit c lines) put
 Finds CheckLinks v s c lines put = CheckLinksFinds v.0 v.1.0 c lines
 Finds Hold v s c lines put = HoldFinds v.0 v.1.0 c lines
 Finds Show v s c lines put = Shows v.0 c lines
+Finds Explain v s c lines put = ExplainFinds v.0 c lines
 Finds Narrow v s c lines put = With (IsMove Inwards v.0 c lines) put
 Finds Widen v s c lines put = With (IsMove Outwards v.0 c lines) put
 Finds Make v s c lines put = Makes s.signals s.seed c lines
@@ -127,6 +136,7 @@ IsOwnEnd Check c = IsCheckEnd c
 IsOwnEnd Bands c = IsTestEnd c
 IsOwnEnd Round c = IsRoundEnd c
 IsOwnEnd RoundFrom c = IsRoundFromEnd c
+IsOwnEnd Whole c = IsRoundEnd c
 IsOwnEnd Half c = IsHalfEnd c
 IsOwnEnd TimingOf c = IsTypedEnd c
 IsOwnEnd Draw c = IsDrawingEnd c
@@ -136,6 +146,7 @@ IsOwnEnd Links c = IsVerdict c
 IsOwnEnd CheckLinks c = IsLinkCheckEnd c
 IsOwnEnd Hold c = IsTestEnd c
 IsOwnEnd Show c = IsDone c
+IsOwnEnd Explain c = IsExplainEnd c
 IsOwnEnd Narrow c = IsDone c
 IsOwnEnd Widen c = IsDone c
 IsOwnEnd Make c = IsDone c

@@ -4,11 +4,11 @@ use Rattle.std.specs.Str.{bytes_eq}
 use Rattle.artery_model.specs.Limits.{is_name}
 use Rattle.description_reader.specs.References.{reference_named}
 use Rattle.run_inputs.specs.Numbers.{signals_of, seed_of, limit_of}
-use Rattle.run_inputs.specs.Cycles.{are_cycles}
+use Rattle.run_inputs.specs.Cycles.{cycle_of, seconds_of, are_spelled}
 use Rattle.run_commands.specs.Settings.{Settings, settings_view, unsaid}
 use Rattle.run_commands.specs.Table.{row, readers}
 use Rattle.run_commands.specs.declared.settings.Setting.{Setting}
-use Rattle.run_commands.specs.declared.settings.Setting.TheVariants.{Signals, Seed, Limit, Work, Cycles, Title, Reference, Word}
+use Rattle.run_commands.specs.declared.settings.Setting.TheVariants.{Signals, Seed, Limit, Work, Cycles, WholeCycles, Title, Reference, Word}
 use Rattle.run_commands.specs.declared.table.Usage.{Usage}
 use Rattle.run_commands.specs.declared.table.TheConstants.{USAGES}
 use Rattle.run_commands.specs.declared.request.Request as code
@@ -26,6 +26,7 @@ said Seed w s = option_map (λ n. record s { seed = n }) (seed_of w)
 said Limit w s = option_map (λ n. record s { limit = n }) (limit_of w)
 said Work w s = option_map (λ n. record s { limit = n }) (limit_of w)
 said Cycles w s = None
+said WholeCycles w s = None
 said Word w s = option_map (λ u. record s { about = Some u }) (named USAGES w)
 said Reference w s = option_map (λ r. record s { reference = r }) (reference_named w)
 said Title w s = if is_name w then Some (record s { title = Some w }) else None
@@ -33,6 +34,7 @@ said Title w s = if is_name w then Some (record s { title = Some w }) else None
 -- where it stands last it may be left out
 abbrev pub may_be_left_out : Setting → Bool
 may_be_left_out Work = true
+may_be_left_out WholeCycles = true
 may_be_left_out Title = true
 may_be_left_out Reference = true
 may_be_left_out Word = true
@@ -41,10 +43,13 @@ may_be_left_out k = false
 -- it takes all words that are left
 abbrev pub takes_all : Setting → Bool
 takes_all Cycles = true
+takes_all WholeCycles = true
 takes_all k = false
 
-abbrev pub cycles_said : List (List ℕ) → Settings → Option Settings
-cycles_said ws s = if are_cycles ws then Some (record s { cycles = ws }) else None
+abbrev pub all_left : Setting → List (List ℕ) → Settings → Option Settings
+all_left Cycles ws s = if are_spelled cycle_of ws then Some (record s { cycles = ws }) else None
+all_left WholeCycles ws s = if are_spelled seconds_of ws then Some (record s { whole_cycles = ws }) else None
+all_left k ws s = None
 
 abbrev pub none_left : List Setting → Bool
 none_left [] = true
@@ -54,7 +59,7 @@ none_left (k ∷ ks) = false
 abbrev pub all_said : List Setting → List (List ℕ) → Settings → Option Settings
 all_said [] [] s = Some s
 all_said [] (w ∷ ws) s = None
-all_said (k ∷ ks) (w ∷ ws) s = if takes_all k then cycles_said (w ∷ ws) s else option_and_then (all_said ks ws) (said k w s)
+all_said (k ∷ ks) (w ∷ ws) s = if takes_all k then all_left k (w ∷ ws) s else option_and_then (all_said ks ws) (said k w s)
 all_said (k ∷ ks) [] s = if may_be_left_out k && none_left ks then Some s else None
 
 -- ---- all words

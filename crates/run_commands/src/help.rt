@@ -18,7 +18,7 @@ use run_inputs::{Cause, Found, told};
 use std::alloc::Global;
 
 /// The version of the program.
-const PROGRAM_VERSION: &str = "1.2.0";
+const PROGRAM_VERSION: &str = "1.3.0";
 
 /// The versions of the program, of descriptions and of plans, and the formats of timings and certificates.
 #[tactic(auto, unfolding(crate::specs::Help::version_text))]

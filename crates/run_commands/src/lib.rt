@@ -25,6 +25,10 @@
 //!   the first reason for which there is none (`IsUnplanned`); `half` the widest equal bands over all offsets by `half_integer`, or
 //!   that there are none (`IsHalved`), or the first reason for which the timing has no such plan (`IsUnmatched`). Nothing is put
 //!   where nothing was found (`put_of` of `run_inputs`).
+//! - `whole` (`specs/Whole.antt`) puts the plan that `whole_plan` chooses of the tried cycles, with a loss of at least 0, counted from the claim
+//!   of a certificate of the street or of the widened one (`IsWhole`), or tells why there is none (`IsPlanless`). What its searches find
+//!   isn't determined, and so neither is whether they lead to a plan.
+//! - `explain` (`specs/Explain.antt`) tells of any file's bytes what `file_words` does (`Tells`).
 //! - `timing` (`specs/Typed.antt`) puts the one timing that a typed plan has by `typed_plan`, with the widest bands on its offsets,
 //!   where it keeps the rules that speak of no band (`HasTiming`), or tells the first reason for which the plan has none.
 //! - `draw` and `sheet` ask of a file's timing its number of signals alone (`specs/Shaped.antt`), put its picture or its table, and tell the
@@ -42,6 +46,7 @@ mod check_lines;
 pub mod check_links;
 mod command;
 pub mod draw;
+pub mod explain;
 pub mod half;
 pub mod help;
 pub mod hold;
@@ -63,6 +68,7 @@ pub mod sweep;
 mod table;
 pub mod trial;
 pub mod typed;
+pub mod whole;
 
 pub use command::Command;
 pub use request::{Request, request_in, room_for_faults};

@@ -59,7 +59,7 @@ fn push_offsets(out: &mut Vec<u8>, artery: &Artery, offsets: &[u64]) -> Result<(
 }
 
 /// Writes the lines of the bands of a timing and of its weighted band.
-fn push_measures(out: &mut Vec<u8>, artery: &Artery, timing: &Timing) -> Result<(), Memory>
+pub fn push_measures(out: &mut Vec<u8>, artery: &Artery, timing: &Timing) -> Result<(), Memory>
     ensures { OnOk result (out.new.items ≡ out.old.items ++ (band_line artery.now timing.now Dir.Outbound ++ (band_line artery.now timing.now Dir.Inbound ++ weighted_line artery.now timing.now))) }
 {
     push_band_line(out, artery, timing, Dir::Outbound)?;
@@ -112,7 +112,7 @@ fn push_unplanned(out: &mut Vec<u8>, end: &PlanEnd) -> Result<(), Memory>
 }
 
 /// The answer where no plan is made: nothing is put.
-fn unplanned(alloc: Global, end: PlanEnd) -> Result<Found, Memory>
+pub fn unplanned(alloc: Global, end: PlanEnd) -> Result<Found, Memory>
     ensures cause { IfOk result (λ a. a.cause ≡ Cause.Unplanned end) }
     ensures lines { IfOk result (λ a. a.lines.items ≡ unplanned_line end) }
     ensures no_put { IfOk result (λ a. a.bytes ≡ None) }

@@ -2,14 +2,15 @@
 
 ghost use Rattle.std.specs.Prelude.{◌≡◌, option_map, map, string_bytes};
 ghost use Rattle.run_commands.specs.Settings.{setting_label, settings_view, unsaid};
-ghost use Rattle.run_commands.specs.Words.{said, may_be_left_out, takes_all, cycles_said, all_said};
+ghost use Rattle.run_commands.specs.Words.{said, may_be_left_out, takes_all, all_left, all_said};
 
 use crate::request::named;
 use crate::table::{USAGES, Usage};
 use artery_model::bounds::LEAST_SIGNALS;
 use artery_model::is_name;
 use description_reader::Reference;
-use run_inputs::{Label, USUAL_WORK, are_cycles, limit_in, seed_in, signals_in};
+use narrow_fraction::Frac;
+use run_inputs::{Label, USUAL_WORK, are_spelled, limit_in, seed_in, signals_in};
 
 /// What a word that names no file says.
 #[derive(Clone, Copy)]
@@ -24,6 +25,8 @@ pub enum Setting {
     Work,
     /// The cycles of a sweep: all words that are left.
     Cycles,
+    /// Cycles in whole seconds: all words that are left, which may be none.
+    WholeCycles,
     /// The title of a picture, which may be left out at the end.
     Title,
     /// The moment from which offsets count, which may be left out at the end.
@@ -51,6 +54,11 @@ pub const CYCLES: Label = (
     "1 to 100 cycles in seconds, each a whole number, a decimal or a fraction",
 );
 
+pub const WHOLE_CYCLES: Label = (
+    "[CYCLE ..]",
+    "1 to 100 cycles in whole seconds, 1 to 3600; where they are left out, all within the limits of the street, or the nearest 100",
+);
+
 pub const TITLE: Label = (
     "[TITLE]",
     "a title for the picture, 1 to 60 bytes without control characters",
@@ -75,6 +83,7 @@ impl Setting {
             Setting::Limit => LIMIT,
             Setting::Work => WORK,
             Setting::Cycles => CYCLES,
+            Setting::WholeCycles => WHOLE_CYCLES,
             Setting::Title => TITLE,
             Setting::Reference => REFERENCE,
             Setting::Word => WORD,
@@ -92,6 +101,8 @@ pub struct Settings<'a> {
     pub seed: u64,
     /// The words that spell the cycles of a sweep.
     pub cycles: &'a [String],
+    /// The words that spell cycles in whole seconds.
+    pub whole_cycles: &'a [String],
     pub title: Option<&'a str>,
     /// The moment from which offsets count.
     pub reference: Reference,
@@ -108,6 +119,7 @@ pub fn unsaid() -> Settings<'static>
         signals: LEAST_SIGNALS as u32,
         seed: 0,
         cycles: &[],
+        whole_cycles: &[],
         title: None,
         reference: Reference::Red,
         about: None,
@@ -148,7 +160,7 @@ fn said<'a>(kind: Setting, word: &'a str, settings: Settings<'a>) -> Option<Sett
             let limit = limit_in(word)?;
             Some(Settings { limit, ..settings })
         }
-        Setting::Cycles => None,
+        Setting::Cycles | Setting::WholeCycles => None,
         Setting::Title => titled(word, settings),
         Setting::Reference => {
             let reference = Reference::named(word)?;
@@ -172,7 +184,11 @@ fn may_be_left_out(kind: Setting) -> bool
     ensures { result ≡ may_be_left_out kind }
 {
     match kind {
-        Setting::Work | Setting::Title | Setting::Reference | Setting::Word => true,
+        Setting::Work
+        | Setting::WholeCycles
+        | Setting::Title
+        | Setting::Reference
+        | Setting::Word => true,
         Setting::Signals | Setting::Seed | Setting::Limit | Setting::Cycles => false,
     }
 }
@@ -182,7 +198,7 @@ fn takes_all(kind: Setting) -> bool
     ensures { result ≡ takes_all kind }
 {
     match kind {
-        Setting::Cycles => true,
+        Setting::Cycles | Setting::WholeCycles => true,
         Setting::Signals
         | Setting::Seed
         | Setting::Limit
@@ -195,15 +211,40 @@ fn takes_all(kind: Setting) -> bool
 
 /// With the cycles that these words spell.
 fn cycles_said<'a>(words: &'a [String], settings: Settings<'a>) -> Option<Settings<'a>>
-    ensures { option_map settings_view result ≡ cycles_said (map string_bytes words.now) (settings_view settings.entry) }
+    ensures { option_map settings_view result ≡ all_left Setting.Cycles (map string_bytes words.now) (settings_view settings.entry) }
 {
-    if are_cycles(words) {
+    if are_spelled::<Frac>(words) {
         Some(Settings {
             cycles: words,
             ..settings
         })
     } else {
         None
+    }
+}
+
+/// With the cycles in whole seconds that these words spell.
+fn whole_cycles_said<'a>(words: &'a [String], settings: Settings<'a>) -> Option<Settings<'a>>
+    ensures { option_map settings_view result ≡ all_left Setting.WholeCycles (map string_bytes words.now) (settings_view settings.entry) }
+{
+    if are_spelled::<u64>(words) {
+        Some(Settings {
+            whole_cycles: words,
+            ..settings
+        })
+    } else {
+        None
+    }
+}
+
+/// With what all words that are left say.
+fn all_left<'a>(kind: Setting, words: &'a [String], settings: Settings<'a>) -> Option<Settings<'a>>
+    ensures { option_map settings_view result ≡ all_left kind (map string_bytes words.now) (settings_view settings.entry) }
+{
+    match kind {
+        Setting::Cycles => cycles_said(words, settings),
+        Setting::WholeCycles => whole_cycles_said(words, settings),
+        _ => None,
     }
 }
 
@@ -226,7 +267,7 @@ pub fn all_said<'a>(
         [kind, kinds @ ..] => match words {
             [word, rest @ ..] => {
                 if takes_all(*kind) {
-                    return cycles_said(words, settings);
+                    return all_left(*kind, words, settings);
                 }
                 let more = said(*kind, word.as_str(), settings)?;
                 all_said(kinds, rest, more)

@@ -2,7 +2,7 @@
 
 ghost use Rattle.std.specs.Prelude.{◌≡◌, IfOk, map, string_bytes, refl};
 ghost use Rattle.work_meter.specs.Work.{IsBelow};
-ghost use Rattle.run_inputs.specs.{Puts.{With, bytes_of}, Cycles.{SpellCycles}, Status.{IsOwnAnswer}};
+ghost use Rattle.run_inputs.specs.{Puts.{With, bytes_of}, Cycles.{cycle_of, Spell}, Status.{IsOwnAnswer}};
 ghost use Rattle.run_commands.specs.Sweep.{rows_line, IsSweep};
 ghost use Rattle.run_commands.specs.Ends.{IsDone};
 ghost use Rattle.run_commands.specs.declared.table.Usage.TheVariants as usage;
@@ -12,7 +12,7 @@ use crate::lines::push_number_line;
 use crate::settings::Settings;
 use artery_model::Artery;
 use cycle_sweep::{sweep_rows, sweep_table};
-use narrow_fraction::Memory;
+use narrow_fraction::{Frac, Memory};
 use run_inputs::{Cause, Found, cycles_in};
 use std::alloc::Global;
 
@@ -32,12 +32,12 @@ fn sweep_cycles(
     words: &[String],
 ) -> Result<Found, Memory>
     requires limit { IsBelow 0 limit }
-    requires words { SpellCycles (map string_bytes words.now) }
+    requires words { Spell cycle_of (map string_bytes words.now) }
     ensures finds { IfOk result (λ a. With (IsSweep artery.now limit (map string_bytes words.now) a.cause a.lines.items) (bytes_of a)) }
     ensures ends { IfOk result (λ a. IsDone a.cause) }
     ensures answer { IfOk result (λ a. IsOwnAnswer a.cause (bytes_of a)) }
 {
-    let cycles = cycles_in(alloc, words)?;
+    let cycles = cycles_in::<Frac>(alloc, words)?;
     let rows = sweep_rows(alloc, artery, limit, cycles.as_slice())?;
     let bytes = sweep_table(alloc, artery, rows.as_slice())?;
     let lines = rows_line(alloc, words.len())?;

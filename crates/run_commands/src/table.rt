@@ -34,6 +34,7 @@ pub enum Usage {
     Bands,
     Round,
     RoundFrom,
+    Whole,
     Half,
     TimingOf,
     Draw,
@@ -43,6 +44,7 @@ pub enum Usage {
     CheckLinks,
     Hold,
     Show,
+    Explain,
     Narrow,
     Widen,
     Make,
@@ -54,12 +56,13 @@ pub enum Usage {
 }
 
 /// In the order of the help.
-pub const USAGES: [Usage; 22] = [
+pub const USAGES: [Usage; 24] = [
     Usage::Solve,
     Usage::Check,
     Usage::Bands,
     Usage::Round,
     Usage::RoundFrom,
+    Usage::Whole,
     Usage::Half,
     Usage::TimingOf,
     Usage::Draw,
@@ -69,6 +72,7 @@ pub const USAGES: [Usage; 22] = [
     Usage::CheckLinks,
     Usage::Hold,
     Usage::Show,
+    Usage::Explain,
     Usage::Narrow,
     Usage::Widen,
     Usage::Make,
@@ -193,6 +197,27 @@ pub const ROUND_FROM_PAGE: PageParts = (
 ",
     "maxband round-from examples/near.toml examples/near-best.txt examples/near-renewed.txt near-plan.txt
 maxband round-from examples/near.toml examples/near-renewed.txt examples/near-best.txt near-plan.txt
+",
+);
+
+pub const WHOLE: Parts = (
+    "whole",
+    &[Reader::Description, Reader::Certificate],
+    true,
+    &[Setting::WholeCycles],
+    true,
+    "put the best plan in whole seconds, speeds free in their limits",
+    "NEW",
+);
+
+pub const WHOLE_PAGE: PageParts = (
+    "the timing of the plan",
+    "0 cycle N, a line of each signal, link and band, weighted X = D and loss X: no good timing is wider by more than the loss
+4 rejected REASON: what the certificate claims isn't proved
+10 no plan ..: why, and nothing is put
+",
+    "maxband whole examples/near.toml examples/near-best.txt near-whole.txt
+maxband whole examples/near.toml examples/near-renewed.txt near-whole.txt 100
 ",
 );
 
@@ -376,6 +401,26 @@ pub const SHOW_PAGE: PageParts = (
 ",
     "maxband show examples/market.toml
 maxband show examples/valley.toml
+",
+);
+
+pub const EXPLAIN: Parts = (
+    "explain",
+    &[Reader::AnyFile],
+    false,
+    &[],
+    false,
+    "say in words what stands in a file, or what is wrong with it",
+    "",
+);
+
+pub const EXPLAIN_PAGE: PageParts = (
+    "",
+    "0 what the file is and what stands in it, with warnings
+3 the line that other commands print, then where it is, what stands there and what is wanted
+",
+    "maxband explain examples/broadway.toml
+maxband explain examples/near-best.txt
 ",
 );
 
@@ -572,6 +617,7 @@ impl Usage {
             Usage::Bands => row_of(BANDS),
             Usage::Round => row_of(ROUND),
             Usage::RoundFrom => row_of(ROUND_FROM),
+            Usage::Whole => row_of(WHOLE),
             Usage::Half => row_of(HALF),
             Usage::TimingOf => row_of(TIMING_OF),
             Usage::Draw => row_of(DRAW),
@@ -581,6 +627,7 @@ impl Usage {
             Usage::CheckLinks => row_of(CHECK_LINKS),
             Usage::Hold => row_of(HOLD),
             Usage::Show => row_of(SHOW),
+            Usage::Explain => row_of(EXPLAIN),
             Usage::Narrow => row_of(NARROW),
             Usage::Widen => row_of(WIDEN),
             Usage::Make => row_of(MAKE),
@@ -602,6 +649,7 @@ impl Usage {
             Usage::Bands => page_of(BANDS_PAGE),
             Usage::Round => page_of(ROUND_PAGE),
             Usage::RoundFrom => page_of(ROUND_FROM_PAGE),
+            Usage::Whole => page_of(WHOLE_PAGE),
             Usage::Half => page_of(HALF_PAGE),
             Usage::TimingOf => page_of(TIMING_OF_PAGE),
             Usage::Draw => page_of(DRAW_PAGE),
@@ -611,6 +659,7 @@ impl Usage {
             Usage::CheckLinks => page_of(CHECK_LINKS_PAGE),
             Usage::Hold => page_of(HOLD_PAGE),
             Usage::Show => page_of(SHOW_PAGE),
+            Usage::Explain => page_of(EXPLAIN_PAGE),
             Usage::Narrow => page_of(NARROW_PAGE),
             Usage::Widen => page_of(WIDEN_PAGE),
             Usage::Make => page_of(MAKE_PAGE),

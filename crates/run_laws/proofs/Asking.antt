@@ -1,5 +1,5 @@
 -- What holds of a request that words ask for.
-use Rattle.std.proofs.Common.{◌≡◌, ℕ, List, [], ◌∷◌, Bool, true, false, Option, Some, None, length, take, drop, nat_le, refl, sym, ◌∙◌, ap, subst}
+use Rattle.std.proofs.Common.{◌≡◌, ℕ, List, [], ◌∷◌, Bool, true, false, Option, Some, None, length, take, drop, nat_le, refl, sym, ap, subst}
 use Rattle.std.specs.Prelude.{option_map, option_and_then, if◌then◌else◌}
 use Rattle.run_commands.specs.Settings.{Settings, unsaid}
 use Rattle.run_commands.specs.Table.{row, readers}

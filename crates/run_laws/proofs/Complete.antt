@@ -1,5 +1,5 @@
 -- Whole runs without a fault end as they should, and faults are told.
-use Rattle.std.proofs.Common.{◌≡◌, ℕ, ◌+◌, List, [], ◌∷◌, Option, Some, None, ◌⊎◌, inl, inr, refl, sym, subst, arith}
+use Rattle.std.proofs.Common.{◌≡◌, ℕ, ◌+◌, List, [], ◌∷◌, Option, Some, None, ◌⊎◌, inl, inr, refl, subst, arith}
 use Rattle.std.specs.Prelude.{IfSome}
 use Rattle.outer_edge.specs.Counts.{next_count, Rose, SameCounts}
 use Rattle.run_inputs.specs.Puts.{NamedBytes, named, put_of}

@@ -19,3 +19,5 @@ pub mod TimingBounded
 pub mod Statuses
 pub mod Helping
 pub mod LimitsSay
+pub mod WholeSay
+pub mod Explained

@@ -1,5 +1,5 @@
 -- What `narrow` and `widen` put.
-use Rattle.std.proofs.Common.{◌≡◌, ℕ, List, subst}
+use Rattle.std.proofs.Common.{ℕ, List, subst}
 use Rattle.outer_edge.specs.Taken.{Appends}
 use Rattle.speed_steps.proofs.Timings.{narrow_is_within, widen_holds_all}
 use Rattle.maxband_run.specs.Outside.{Outside}

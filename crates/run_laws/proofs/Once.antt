@@ -1,4 +1,4 @@
--- What a command finds of the same values is one thing, or a verdict of a search.
+-- What a command finds of the same values is one thing, or what a search leads to.
 use Rattle.std.specs.Prelude.{option_map, if◌then◌else◌}
 use Rattle.plan_text.specs.Spelling.{timing_text}
 use Rattle.std.proofs.Common.{arith, pos, ◌*ℤ◌, ◌++◌, ◌*◌, ◌⊎◌, ap₂, ◌≤◌, ◌≡◌, ℕ, Bool, true, false, List, [], ◌∷◌, Option, Some, None, inl, inr, refl, sym, ◌∙◌, ap, subst}
@@ -51,6 +51,7 @@ use Rattle.progression.specs.Good.{Good}
 use Rattle.rational_theory.specs.Rational.{ℚ}
 use Rattle.run_commands.specs.Bound.{IsBound, IsRefused}
 use Rattle.run_commands.specs.Round.{plan_lines, unplanned_line, IsCertified, IsRounded, IsUnfit, IsUnplanned, Unplans, RoundFinds, RoundFromFinds}
+use Rattle.run_commands.specs.Whole.{IsPlanless, WholeFinds}
 use Rattle.run_commands.specs.Narrow.{IsMove}
 use Rattle.speed_steps.specs.Moved.{widen, street_moved}
 use Rattle.speed_steps.specs.declared.way.Way.{Way}
@@ -66,10 +67,12 @@ use Rattle.run_commands.specs.Table.{row, readers, Finds}
 use Rattle.run_commands.specs.Words.{Request}
 use Rattle.run_commands.specs.declared.table.Usage.{Usage}
 use Rattle.run_commands.specs.declared.table.Usage.TheVariants as usage
-use Rattle.run_laws.specs.Laws.{SameBytes, SamePut, Agree}
+use Rattle.run_laws.specs.Laws.{SameBytes, SameLines, SamePut, IsChosen, Agree}
 use Rattle.run_inputs.specs.declared.cause.Cause.{Cause}
 use Rattle.run_inputs.specs.declared.cause.Cause.TheVariants as cause
-use Rattle.run_laws.proofs.Readers.{same_refusal}
+use Rattle.file_kind.specs.Kinds.{kind_of}
+use Rattle.run_laws.proofs.Readers.{same_refusal, OneReading}
+use Rattle.run_laws.proofs.Explained.{tells_once}
 
 -- a search gives a verdict
 pub verdict_cause : (c : Cause) (v : Verdict SitePart) → c ≡ cause_of v → IsVerdict c
@@ -257,6 +260,31 @@ other_clash : RefusedIsNotAccepted → (a : Street) (w : Warrant) (c : Cause) (l
 other_clash apart a w c l h other (inl accepted) = apart a w h.reject h.first h.kept accepted
 other_clash apart a w c l h other (inr accepted) = apart (widen a) w other.why other.first other.kept accepted
 
+-- a plan in whole seconds goes by what searches find, but a certificate is refused once
+pub planless_bound : (a : Street) (w : Warrant) (ks : List ℕ) (e : PlanEnd) (x : List ℕ) (s : Option (List ℕ)) → IsPlanless a w ks e x s → IsBound a w
+planless_bound a w ks e x s h = elim h.reason [ inl n ↦ n.accepted | inr n ↦ n.basis.accepted ]
+
+module _ (apart : RefusedIsNotAccepted) (once : OneFirstRefusal) (a : Street) (w : Warrant) (ks ms : List ℕ) where
+  bound_clash : (c : Cause) (x : List ℕ) → Rejects whole_bands whole_checked a w c x × IsRefused (widen a) w → IsBound a w → ⊥
+  bound_clash c x h bound = other_clash apart a w c x h.0 h.1 bound
+
+  whole_once : (c d : Cause) (x y : List ℕ) (s u : Option (List ℕ)) → WholeFinds a w ks c x s → WholeFinds a w ms d y u
+      → ((c ≡ d) × (x ≡ y) × (s ≡ u)) ⊎ (IsChosen usage.Whole c × IsChosen usage.Whole d)
+  whole_once cause.Done cause.Done x y s u h k = inr (tt, tt)
+  whole_once cause.Done (cause.Rejected q) x y s u h k = absurd (bound_clash (cause.Rejected q) y (k.0, k.1) h.2.basis.accepted)
+  whole_once cause.Done (cause.Unplanned e) x y s u h k = inr (tt, tt)
+  whole_once cause.Done d x y s u h k = absurd k
+  whole_once (cause.Rejected r) cause.Done x y s u h k = absurd (bound_clash (cause.Rejected r) x (h.0, h.1) k.2.basis.accepted)
+  whole_once (cause.Rejected r) (cause.Rejected q) x y s u h k =
+      let e = rejects_once whole_bands whole_checked once a w (cause.Rejected r) (cause.Rejected q) x y h.0 k.0 in inl (e.0, e.1, h.2 ∙ sym k.2)
+  whole_once (cause.Rejected r) (cause.Unplanned e) x y s u h k = absurd (bound_clash (cause.Rejected r) x (h.0, h.1) (planless_bound a w ms e y u k))
+  whole_once (cause.Rejected r) d x y s u h k = absurd k
+  whole_once (cause.Unplanned e) cause.Done x y s u h k = inr (tt, tt)
+  whole_once (cause.Unplanned e) (cause.Rejected q) x y s u h k = absurd (bound_clash (cause.Rejected q) y (k.0, k.1) (planless_bound a w ks e x s h))
+  whole_once (cause.Unplanned e) (cause.Unplanned f) x y s u h k = inr (tt, tt)
+  whole_once (cause.Unplanned e) d x y s u h k = absurd k
+  whole_once c d x y s u h k = absurd h
+
 -- the moved street has one text
 moved_once : OneText → (way : Way) (a : Street) (c d : Cause) (x y : List ℕ) (s t : Option (List ℕ)) → With (IsMove way a c x) s → With (IsMove way a d y) t → (c ≡ d) × (x ≡ y) × (s ≡ t)
 moved_once one_text way a c d x y s t h k =
@@ -353,25 +381,29 @@ pub put_same : (asked : Option Request) (p q : Option NamedBytes) → p ≡ q �
 put_same None p q e = e
 put_same (Some r) p q e = same_bytes r.usage p q e
 
+pub lines_alike : (u : Usage) (c : Cause) (x y : List ℕ) → x ≡ y → SameLines u c x y
+lines_alike usage.Explain (cause.Refused r) x y e = inl e
+lines_alike u c x y e = e
+
 -- ---- every command
 -- the same cause and lines, and the same bytes, as this command puts them
 pub record Alike (u : Usage) (output : Option (List ℕ)) (c d : Cause) (x y : List ℕ) (s t : Option (List ℕ)) : Type 0 where
   pub cause : c ≡ d
-  pub lines : x ≡ y
+  pub lines : SameLines u c x y
   pub put : SameBytes u (put_of output s) (put_of output t)
 
 -- of a command that puts nothing
 told_once : (u : Usage) (c d : Cause) (x y : List ℕ) (s t : Option (List ℕ)) → (c ≡ d) × (x ≡ y) → Alike u None c d x y s t
-told_once u c d x y s t e = record { cause = e.0; lines = e.1; put = same_bytes u None None refl }
+told_once u c d x y s t e = record { cause = e.0; lines = lines_alike u c x y e.1; put = same_bytes u None None refl }
 
 alike : (u : Usage) (output : Option (List ℕ)) (c d : Cause) (x y : List ℕ) (s t : Option (List ℕ)) → (c ≡ d) × (x ≡ y) × (s ≡ t) → Alike u output c d x y s t
-alike u output c d x y s t e = record { cause = e.0; lines = e.1; put = same_bytes u (put_of output s) (put_of output t) (put_alike output s t e.2) }
+alike u output c d x y s t e = record { cause = e.0; lines = lines_alike u c x y e.1; put = same_bytes u (put_of output s) (put_of output t) (put_alike output s t e.2) }
 
-module _ (one_text : OneText) (one_first : OneFirst) (rules : FailsRulesOut) (apart : RefusedIsNotAccepted) (once : OneFirstRefusal) (widest : OneWidest) (finer : FinerPairs)
+module _ (reader : OneReading) (one_text : OneText) (one_first : OneFirst) (rules : FailsRulesOut) (apart : RefusedIsNotAccepted) (once : OneFirstRefusal) (widest : OneWidest) (finer : FinerPairs)
     (one_timing : OneTiming) (ends : OneEnd) (plan_ends : second.OneEnd) (plan_or : PlanOrEnd) (one_plan : OnePlan) (links_apart : LinkRefusedIsNotAccepted) (links_once : OneFirstLinkRefusal) where
   pub finds_once : (u : Usage) (n : Settings) (output : Option (List ℕ)) (v : Values (readers u)) (c d : Cause) (x y : List ℕ) (s t : Option (List ℕ))
       → Finds u v n c x s → Finds u v n d y t
-      → Agree (row u).chooses (readers u) (Alike u (if (row u).puts then output else None) c d x y s t) (IsVerdict c × IsVerdict d)
+      → Agree (row u).chooses (readers u) (Alike u (if (row u).puts then output else None) c d x y s t) (IsChosen u c × IsChosen u d)
   finds_once usage.Hold n output v c d x y s t h k = told_once usage.Hold c d x y s t (hold_once one_first rules v.0 v.1.0 c d x y h k)
   finds_once usage.Show n output v c d x y s t h k = told_once usage.Show c d x y s t (show_once one_text v.0 c d x y h k)
   finds_once usage.Check n output v c d x y s t h k = told_once usage.Check c d x y s t (checks_once whole_bands whole_checked once v.0 v.1.0 apart c d x y h k)
@@ -400,6 +432,12 @@ module _ (one_text : OneText) (one_first : OneFirst) (rules : FailsRulesOut) (ap
       alike usage.Draw output c d x y s t (timed_once one_first rules v.0 (λ p. drawn_lines) (picture_of v.0 n.title) v.1.0 c d x y s t h k)
   finds_once usage.Sheet n output v c d x y s t h k =
       alike usage.Sheet output c d x y s t (timed_once one_first rules v.0 (sheet_lines v.0) (table_of v.0 n.reference) v.1.0 c d x y s t h k)
+  finds_once usage.Whole n output v c d x y s t h k = elim (whole_once apart once v.0 v.1.0 h.0 k.0 c d x y s t h.2 k.2) [
+    | inl e ↦ inl (alike usage.Whole output c d x y s t e)
+    | inr e ↦ inr e
+  ]
+  finds_once usage.Explain n output v c d x y s t h k =
+      let e = tells_once reader v.0 (kind_of v.0) c d x y h k in record { cause = e.0; lines = e.1; put = same_bytes usage.Explain None None refl }
   finds_once usage.Help n output v c d x y s t h k = told_once usage.Help c d x y s t (h.0 ∙ sym k.0, h.1 ∙ sym k.1)
   finds_once usage.Version n output v c d x y s t h k = told_once usage.Version c d x y s t (h.0 ∙ sym k.0, h.1 ∙ sym k.1)
   finds_once usage.Narrow n output v c d x y s t h k = alike usage.Narrow output c d x y s t (moved_once one_text Inwards v.0 c d x y s t h k)
@@ -408,7 +446,7 @@ module _ (one_text : OneText) (one_first : OneFirst) (rules : FailsRulesOut) (ap
   finds_once usage.Trial n output v c d x y s t h k = (verdict_cause c h.found.verdict h.cause_is, verdict_cause d k.found.verdict k.cause_is)
   finds_once usage.Sensitivity n output v c d x y s t h k = inr (subst IsVerdict (sym h.2.cause_is) tt, subst IsVerdict (sym k.2.cause_is) tt)
   finds_once usage.Sweep n output v c d x y s t h k =
-      record { cause = h.2.cause_is ∙ sym k.2.cause_is; lines = h.2.lines_are ∙ sym k.2.lines_are; put = name_alike output s t h.0 k.0 h.1 k.1 }
+      record { cause = h.2.cause_is ∙ sym k.2.cause_is; lines = lines_alike usage.Sweep c x y (h.2.lines_are ∙ sym k.2.lines_are); put = name_alike output s t h.0 k.0 h.1 k.1 }
 
 -- files that stop the reading in one way
 pub stops_agree : (chooses : Bool) (rs : List Reader) (same verdicts : Type 0) → (rs ≡ [] → ⊥) → same → Agree chooses rs same verdicts

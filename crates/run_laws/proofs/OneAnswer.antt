@@ -15,14 +15,13 @@ use Rattle.std.specs.Prelude.{if◌then◌else◌}
 use Rattle.run_inputs.specs.Puts.{NamedBytes, put_of}
 use Rattle.run_inputs.specs.Reading.{inputs, Values, StopsReading}
 use Rattle.run_inputs.specs.declared.reader.Reader.{Reader}
-use Rattle.run_commands.specs.Ends.{IsVerdict}
 use Rattle.run_commands.specs.Table.{row, readers, Finds}
 use Rattle.run_commands.specs.Words.{Request, request_of}
 use Rattle.maxband_run.specs.Run.{question}
-use Rattle.run_laws.specs.Laws.{SameBytes, Same, AnswersAgree, OneAnswer}
+use Rattle.run_laws.specs.Laws.{SameBytes, Same, IsChosen, AnswersAgree, OneAnswer}
 use Rattle.run_inputs.specs.declared.cause.Cause.{Cause}
 use Rattle.run_laws.proofs.Readers.{OneReading, one_stop, all_apart, same_values}
-use Rattle.run_laws.proofs.Once.{put_same, Alike, finds_once, stops_agree, agree_by}
+use Rattle.run_laws.proofs.Once.{put_same, lines_alike, Alike, finds_once, stops_agree, agree_by}
 use Rattle.run_laws.proofs.Asking.{PutsAsAsked, words_put}
 
 -- where there is no file no reading stops
@@ -55,16 +54,17 @@ module _ (reader : OneReading) (one_text : OneText) (one_first : OneFirst) (rule
     }
     one_for (Some r) puts c d x y p q told n m (inl h) (inl k) =
         let e = one_stop reader held before after (inputs (readers r.usage) r.reads) 1 c d x y told n m h.stops k.stops in
-        stops_agree (row r.usage).chooses (readers r.usage) (Same (Some r) c x p d y q) (IsVerdict c × IsVerdict d) (some_file held before after (readers r.usage) r.reads c x h.stops)
-        (record { cause = e.0; lines = e.1; put = put_same (Some r) p q (h.no_put ∙ sym k.no_put) })
+        stops_agree (row r.usage).chooses (readers r.usage) (Same (Some r) c x p d y q) (IsChosen r.usage c × IsChosen r.usage d) (some_file held before after (readers r.usage) r.reads c x h.stops)
+        (record { cause = e.0; lines = lines_alike r.usage c x y e.1; put = put_same (Some r) p q (h.no_put ∙ sym k.no_put) })
     one_for (Some r) puts c d x y p q told n m (inl h) (inr k) = absurd (all_apart reader held before after (readers r.usage) r.reads 1 k.values c x told n k.read h.stops)
     one_for (Some r) puts c d x y p q told n m (inr h) (inl k) = absurd (all_apart reader held before after (readers r.usage) r.reads 1 h.values d y told m h.read k.stops)
     one_for (Some r) puts c d x y p q told n m (inr h) (inr k) =
         let e = same_values reader held before after (readers r.usage) r.reads h.values k.values told h.read k.read in
         let found = subst (λ (v : Values (readers r.usage)). Finds r.usage v r.settings c x h.bytes) e h.finds.finds in
-        let agree = finds_once one_text one_first rules apart once widest finer one_timing ends plan_ends plan_or one_plan links_apart links_once
+        let agree = finds_once reader one_text one_first rules apart once widest finer one_timing ends plan_ends plan_or one_plan links_apart links_once
         r.usage r.settings r.output k.values c d x y h.bytes k.bytes found k.finds.finds in
-        agree_by (row r.usage).chooses (readers r.usage) (Alike r.usage (if (row r.usage).puts then r.output else None) c d x y h.bytes k.bytes) (Same (Some r) c x p d y q) (IsVerdict c × IsVerdict d)
+        agree_by (row r.usage).chooses (readers r.usage) (Alike r.usage (if (row r.usage).puts then r.output else None) c d x y h.bytes k.bytes) (Same (Some r) c x p d y q)
+        (IsChosen r.usage c × IsChosen r.usage d)
         (same_of r c d x y p q h.bytes k.bytes puts h.put_is k.put_is) agree
 
   pub one_answer : OneAnswer

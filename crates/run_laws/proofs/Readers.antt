@@ -14,8 +14,8 @@ use Rattle.run_inputs.specs.Timed.{timed_of}
 use Rattle.run_inputs.specs.Lines.{refused_line, bad_text_line, too_long_line}
 use Rattle.run_inputs.specs.Reading.{HasFault, IsBadText, Value}
 use Rattle.run_inputs.specs.declared.reader.Reader.{Reader}
-use Rattle.run_inputs.specs.declared.reader.Reader.TheVariants.{Description, Timing, Certificate, LinkCertificate, Timed, TypedPlan}
-use Rattle.run_inputs.specs.Reading.{input, inputs, most_bytes, IsReadAs, IsRefusedFor, Input, HasBytes, Reads, IsUnread, Values, AreRead, StopsReading, AreTold}
+use Rattle.run_inputs.specs.declared.reader.Reader.TheVariants.{Description, Timing, Certificate, LinkCertificate, Timed, TypedPlan, AnyFile}
+use Rattle.run_inputs.specs.Reading.{input, inputs, most_bytes, IsReadAs, IsRefusedFor, IsLongFor, IsTooLong, Input, HasBytes, Reads, IsUnread, Values, AreRead, StopsReading, AreTold}
 use Rattle.run_inputs.specs.Status.{IsReached}
 use Rattle.run_inputs.specs.declared.cause.Cause.{Cause}
 use Rattle.run_inputs.specs.declared.cause.Cause.TheVariants as cause
@@ -25,13 +25,13 @@ use Rattle.run_laws.proofs.Holding.{has_told}
 pub same_refusal : (r s : Refusal) → fault_of r ≡ fault_of s → r ≡ s
 same_refusal r s e = λ i. record { kind = (e i).kind; place = (e i).place }
 
-same_ok : {T : Type 0} (t u : T) → ◌≡◌ {A = Result T BadText} (Ok t) (Ok u) → t ≡ u
+pub same_ok : {T : Type 0} (t u : T) → ◌≡◌ {A = Result T BadText} (Ok t) (Ok u) → t ≡ u
 same_ok t u e = cc
 
-same_err : {T : Type 0} (b d : BadText) → ◌≡◌ {A = Result T BadText} (Err b) (Err d) → b ≡ d
+pub same_err : {T : Type 0} (b d : BadText) → ◌≡◌ {A = Result T BadText} (Err b) (Err d) → b ≡ d
 same_err b d e = cc
 
-ok_apart : {T : Type 0} (t : T) (b : BadText) → ◌≡◌ {A = Result T BadText} (Ok t) (Err b) → ⊥
+pub ok_apart : {T : Type 0} (t : T) (b : BadText) → ◌≡◌ {A = Result T BadText} (Ok t) (Err b) → ⊥
 ok_apart t b e = cc
 
 some_of : (o : Option (List ℕ)) → IsSome o → (x : List ℕ) × (o ≡ Some x)
@@ -44,17 +44,37 @@ too_long n x b = omega (arith, b.long, b.begins.inside)
 reads_told : (r : Reader) (o : Option (List ℕ)) (x : List ℕ) (v : Value r) → o ≡ Some x → Reads r o v → (length x ≤ most_bytes r) × IsReadAs r x v
 reads_told r o x v e h = has_told (most_bytes r) x (λ y. IsReadAs r y v) (subst (λ k. HasBytes (most_bytes r) k (λ y. IsReadAs r y v)) e h)
 
+-- more bytes than the limit, or too many for what they begin with
+abbrev IsLong : Reader → List ℕ → Type 0
+IsLong r x = (most_bytes r < length x) ⊎ IsLongFor r x
+
+long_told : (r : Reader) (o : Option (List ℕ)) (x : List ℕ) → o ≡ Some x → IsTooLong r o → IsLong r x
+long_told r o x e (inl h) = inl (too_long (most_bytes r) x (subst (λ k. BeginsWith (most_bytes r + 1) k) e h))
+long_told r o x e (inr h) = inr (has_told (most_bytes r) x (IsLongFor r) (subst (λ k. HasBytes (most_bytes r) k (IsLongFor r)) e h)).1
+
+value_long : (r : Reader) (x : List ℕ) (v : Value r) → IsReadAs r x v → IsLongFor r x → ⊥
+value_long AnyFile x v h l = h.1 l
+value_long r x v h l = absurd l
+
+refused_long : (r : Reader) (x : List ℕ) (c : Cause) (lines : List ℕ) → IsRefusedFor r x c lines → IsLongFor r x → ⊥
+refused_long AnyFile x c lines h l = h
+refused_long r x c lines h l = absurd l
+
 -- a reached end of a file is a refusal, or the file is too long
 unread_told : (i : Input) (place : ℕ) (held : List ℕ → Option (List ℕ)) (before after : List ℕ → ℕ) (x : List ℕ) (c : Cause) (lines : List ℕ)
     → held i.name ≡ Some x → IsReached c → IsUnread i place held before after c lines
-    → ((length x ≤ most_bytes i.reader) × IsRefusedFor i.reader x c lines) ⊎ ((c ≡ cause.TooLong place) × (lines ≡ too_long_line i.name) × (most_bytes i.reader < length x))
+    → ((length x ≤ most_bytes i.reader) × IsRefusedFor i.reader x c lines) ⊎ ((c ≡ cause.TooLong place) × (lines ≡ too_long_line i.name) × IsLong i.reader x)
 unread_told i place held before after x (cause.ReadFault f) lines e n h = absurd n
 unread_told i place held before after x (cause.TooLong f) lines e n h =
-    inr (ap cause.TooLong h.0, h.3, too_long (most_bytes i.reader) x (subst (λ o. BeginsWith (most_bytes i.reader + 1) o) e h.2))
+    inr (ap cause.TooLong h.0, h.3, long_told i.reader (held i.name) x e h.2)
 unread_told i place held before after x cause.WriteFault lines e n h = absurd n
 unread_told i place held before after x cause.Memory lines e n h = absurd n
 unread_told i place held before after x c lines e n h =
     inl (has_told (most_bytes i.reader) x (λ y. IsRefusedFor i.reader y c lines) (subst (λ o. HasBytes (most_bytes i.reader) o (λ y. IsRefusedFor i.reader y c lines)) e h.1))
+
+refused_apart : (r : Reader) (x : List ℕ) (c : Cause) (lines : List ℕ) → length x ≤ most_bytes r → IsRefusedFor r x c lines → IsLong r x → ⊥
+refused_apart r x c lines few h (inl more) = omega (arith, few, more)
+refused_apart r x c lines few h (inr long) = refused_long r x c lines h long
 
 -- ---- texts
 module _ {V : Type 0} (reads : List ℕ → Result V BadText) (x : List ℕ) where
@@ -92,6 +112,7 @@ module _ (reader : OneReading) where
   one_value LinkCertificate x u v h k = same_ok u v (sym h ∙ k)
   one_value Timed x u v h k = same_ok u v (sym h ∙ k)
   one_value TypedPlan x u v h k = reader.plan.plan x u v h k
+  one_value AnyFile x u v h k = h.0 ∙ sym k.0
 
   value_apart : (r : Reader) (x : List ℕ) (v : Value r) (c : Cause) (lines : List ℕ) → IsReadAs r x v → IsRefusedFor r x c lines → ⊥
   value_apart Description x v c lines h k = fault_apart described.RefusedAs x c lines (λ f r. reader.street.apart x v f h r) k
@@ -100,6 +121,7 @@ module _ (reader : OneReading) where
   value_apart LinkCertificate x v c lines h k = text_apart links_of x v c lines h k
   value_apart Timed x v c lines h k = text_apart timed_of x v c lines h k
   value_apart TypedPlan x v c lines h k = fault_apart typed.GivesNone x c lines (λ f r. reader.plan.apart x v f h r) k
+  value_apart AnyFile x v c lines h k = k
 
   one_refusal : (r : Reader) (x : List ℕ) (c d : Cause) (l m : List ℕ) → IsRefusedFor r x c l → IsRefusedFor r x d m → (c ≡ d) × (l ≡ m)
   one_refusal Description x c d l m h k = one_fault described.RefusedAs x (reader.street.fault x) c d l m h k
@@ -108,6 +130,7 @@ module _ (reader : OneReading) where
   one_refusal LinkCertificate x c d l m h k = one_bad_text links_of x c d l m h k
   one_refusal Timed x c d l m h k = one_bad_text timed_of x c d l m h k
   one_refusal TypedPlan x c d l m h k = one_fault typed.GivesNone x (reader.plan.fault x) c d l m h k
+  one_refusal AnyFile x c d l m h k = absurd h
 
   -- ---- one file
   pub one_read : (r : Reader) (o : Option (List ℕ)) (u v : Value r) → IsSome o → Reads r o u → Reads r o v → u ≡ v
@@ -123,7 +146,7 @@ module _ (reader : OneReading) where
         let r = reads_told i.reader (held i.name) s.0 v s.1 h in
         elim (unread_told i place held before after s.0 c lines s.1 n k) [
           | inl p ↦ value_apart i.reader s.0 v c lines r.1 p.1
-          | inr p ↦ omega (arith, r.0, p.2)
+          | inr p ↦ elim p.2 [ inl more ↦ omega (arith, r.0, more) | inr long ↦ value_long i.reader s.0 v r.1 long ]
         ]
 
     one_unread : (i : Input) (place : ℕ) (c d : Cause) (l m : List ℕ) → IsSome (held i.name) → IsReached c → IsReached d
@@ -133,10 +156,10 @@ module _ (reader : OneReading) where
         elim (unread_told i place held before after s.0 c l s.1 n h) [
           | inl p ↦ elim (unread_told i place held before after s.0 d m s.1 o k) [
             | inl q ↦ one_refusal i.reader s.0 c d l m p.1 q.1
-            | inr q ↦ absurd (omega (arith, p.0, q.2))
+            | inr q ↦ absurd (refused_apart i.reader s.0 c l p.0 p.1 q.2)
           ]
           | inr p ↦ elim (unread_told i place held before after s.0 d m s.1 o k) [
-            | inl q ↦ absurd (omega (arith, q.0, p.2))
+            | inl q ↦ absurd (refused_apart i.reader s.0 d m q.0 q.1 p.2)
             | inr q ↦ (p.0 ∙ sym q.0, p.1 ∙ sym q.1)
           ]
         ]

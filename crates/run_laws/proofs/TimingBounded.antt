@@ -1,5 +1,5 @@
 -- A plan that holds is worth no more than what an accepted certificate bounds.
-use Rattle.std.proofs.Common.{◌≡◌, ℕ, List, Option, Some, None, subst}
+use Rattle.std.proofs.Common.{Option, Some, None, subst}
 use Rattle.rational_theory.specs.Rational.{◌≤ℚ◌}
 use Rattle.progression.specs.Street.{Street}
 use Rattle.progression.specs.TimingRecord.{TimingRecord}

@@ -44,6 +44,9 @@ round artery certificate plan = asked usage.Round (artery ∷ certificate ∷ []
 abbrev pub round_from : List ℕ → List ℕ → List ℕ → List ℕ → Question
 round_from artery certificate other plan = asked usage.RoundFrom (artery ∷ certificate ∷ other ∷ []) (Some plan) unsaid
 
+abbrev pub whole : List ℕ → List ℕ → List ℕ → List (List ℕ) → Question
+whole artery certificate plan cycles = asked usage.Whole (artery ∷ certificate ∷ []) (Some plan) (record unsaid { whole_cycles = cycles })
+
 abbrev pub half : List ℕ → List ℕ → List ℕ → Question
 half artery timing new = asked usage.Half (artery ∷ timing ∷ []) (Some new) unsaid
 

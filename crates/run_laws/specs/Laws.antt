@@ -45,6 +45,7 @@ use Rattle.maxband_run.specs.Run.{Question, question, Answers, Ends}
 use Rattle.run_inputs.specs.Status.{number_of, IsReached}
 use Rattle.run_inputs.specs.declared.cause.Cause.{Cause}
 use Rattle.run_inputs.specs.declared.cause.Cause.TheVariants as cause
+use Rattle.artery_model.specs.declared.kind.Kind.TheVariants.{NotToml}
 
 -- a read, a put or a write failed
 abbrev pub IsFault : Cause → Type 0
@@ -58,13 +59,22 @@ abbrev pub SameBytes : Usage → Option NamedBytes → Option NamedBytes → Typ
 SameBytes usage.Sweep p q = option_map (λ b. b.name) p ≡ option_map (λ b. b.name) q
 SameBytes u p q = p ≡ q
 
+-- the same lines; but what `explain` says of a text that is no TOML goes by what its reader says
+abbrev pub SameLines : Usage → Cause → List ℕ → List ℕ → Type 0
+SameLines usage.Explain (cause.Refused r) x y = (x ≡ y) ⊎ (r.kind ≡ NotToml)
+SameLines u c x y = x ≡ y
+
+abbrev pub SameTold : Option Request → Cause → List ℕ → List ℕ → Type 0
+SameTold None c x y = x ≡ y
+SameTold (Some r) c x y = SameLines r.usage c x y
+
 abbrev pub SamePut : Option Request → Option NamedBytes → Option NamedBytes → Type 0
 SamePut None p q = p ≡ q
 SamePut (Some r) p q = SameBytes r.usage p q
 
 pub record Same (asked : Option Request) (c : Cause) (x : List ℕ) (p : Option NamedBytes) (d : Cause) (y : List ℕ) (q : Option NamedBytes) : Type 0 where
   pub cause : c ≡ d
-  pub lines : x ≡ y
+  pub lines : SameTold asked c x y
   pub put : SamePut asked p q
 
 -- whether any of several best answers may be told
@@ -72,18 +82,27 @@ abbrev pub chooses : Option Request → Bool
 chooses None = false
 chooses (Some r) = (row r.usage).chooses
 
--- Two answers to the same words are the same. Two of a command that chooses may both be verdicts, since of several best timings any may be found; where it reads no file
+-- a cause with which a command may tell any of several answers: that of a search, or that a search leads to a plan in whole seconds or to none
+abbrev pub IsChosen : Usage → Cause → Type 0
+IsChosen usage.Whole (cause.Unplanned e) = Unit {0}
+IsChosen u c = IsVerdict c
+
+abbrev pub IsChosenBy : Option Request → Cause → Type 0
+IsChosenBy None c = ⊥
+IsChosenBy (Some r) c = IsChosen r.usage c
+
+-- Two answers to the same words are the same. Two of a command that chooses may both be chosen, since of several best timings any may be found; where it reads no file
 -- they are.
 abbrev pub Agree : Bool → List Reader → Type 0 → Type 0 → Type 0
-Agree false readers same verdicts = same
-Agree true [] same verdicts = verdicts
-Agree true (r ∷ rs) same verdicts = same ⊎ verdicts
+Agree false readers same chosen = same
+Agree true [] same chosen = chosen
+Agree true (r ∷ rs) same chosen = same ⊎ chosen
 
 -- What files that tell their bytes hold, and the words, leave one answer, its cause, its lines and what it puts: so each status but 0, 1 and 2 of `solve`, `links` and
--- `trial`, that of a fault and that of want of memory comes exactly by its cause.
+-- `trial`, 0 and 10 of `whole`, that of a fault and that of want of memory comes exactly by its cause.
 abbrev pub AnswersAgree : (List ℕ → Option (List ℕ)) → (List ℕ → ℕ) → (List ℕ → ℕ) → Option Request → Question → Type 0
 AnswersAgree held before after asked q = (c d : Cause) (x y : List ℕ) (put other : Option NamedBytes) → AreTold held (inputs q.readers q.names) → IsReached c → IsReached d
-    → Answers held before after q c x put → Answers held before after q d y other → Agree (chooses asked) q.readers (Same asked c x put d y other) (IsVerdict c × IsVerdict d)
+    → Answers held before after q c x put → Answers held before after q d y other → Agree (chooses asked) q.readers (Same asked c x put d y other) (IsChosenBy asked c × IsChosenBy asked d)
 
 abbrev pub OneAnswer : Type 0
 OneAnswer = (held : List ℕ → Option (List ℕ)) (before after : List ℕ → ℕ) (words : List (List ℕ)) → AnswersAgree held before after (request_of words) (question (request_of words))

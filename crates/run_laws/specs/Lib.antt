@@ -4,3 +4,4 @@ pub mod PlanLaws
 pub mod StopLaws
 pub mod EndLaws
 pub mod LimitLaws
+pub mod WholeLaws

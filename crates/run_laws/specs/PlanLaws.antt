@@ -41,7 +41,7 @@ use Rattle.cycle_sweep.specs.declared.row.SweepRow.{SweepRow}
 use Rattle.cycle_sweep.specs.Rows.{IsRow}
 use Rattle.cycle_sweep.specs.Says.{SaysRow}
 use Rattle.cycle_sweep.specs.Table.{row_fields, sweep_text}
-use Rattle.run_inputs.specs.Cycles.{AreCycles}
+use Rattle.run_inputs.specs.Cycles.{cycle_of, AreSpelled}
 use Rattle.maxband_run.specs.Outside.{Outside}
 use Rattle.run_laws.specs.Asked as ask
 use Rattle.run_inputs.specs.Reading.{input, most_bytes, Reads, StopsReading}
@@ -404,7 +404,7 @@ pub record PutsTable (before now : Outside) (artery table : List ℕ) (limit : O
   pub cycles : List ℚ
   pub rows : List SweepRow
   pub description : Reads Description (before.holds artery) street
-  pub cycles_are : AreCycles words cycles
+  pub cycles_are : AreSpelled cycle_of words cycles
   pub each : AllZip (SaysCycle street limit) cycles rows
   pub put : HoldsExactly (now.holds table) (sweep_text street rows)
   pub told : Appends before.taken now.taken (rows_line (length words))

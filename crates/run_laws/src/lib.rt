@@ -27,7 +27,7 @@ pub use ends::law_runs_are_complete;
 pub use plans::{
     law_bands_say, law_draw_says, law_half_says, law_narrow_says, law_plan_is_held,
     law_round_from_says, law_round_says, law_sensitivity_says, law_sheet_says, law_sweep_says,
-    law_timing_is_bounded, law_timing_says, law_widen_says,
+    law_timing_is_bounded, law_timing_says, law_whole_says, law_widen_says,
 };
 pub use runs::{
     law_check_links_says, law_check_says, law_faults_are_told, law_help_says, law_hold_says,

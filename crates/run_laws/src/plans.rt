@@ -2,7 +2,7 @@
 
 ghost use Rattle.run_laws.specs.PlanLaws.{BandsSay, HalfSays, RoundSays, RoundFromSays, NarrowSays, WidenSays, TimingSays, TimingIsBounded, DrawSays, SheetSays};
 ghost use Rattle.run_laws.specs.PlanLaws.{SweepSays, PlanIsHeld};
-ghost use Rattle.run_laws.specs.LimitLaws.{SensitivitySays};
+ghost use Rattle.run_laws.specs.{LimitLaws.{SensitivitySays}, WholeLaws.{WholeSays}};
 
 /// A law over the definitions: after status 0 of `bands` the widest bands on the timing's offsets were printed, and after 4 a rule
 /// fails that speaks of no band.
@@ -39,6 +39,16 @@ pub fn law_round_from_says()
 {
     certificate_checker::law_accepted_or_refused();
     time_space::law_fails_rules_out();
+}
+
+/// A law over the definitions: after status 0 of `whole` the file that it put holds the text of a timing whose cycle and offsets, which are
+/// printed, are whole seconds. It is good on the described artery, no good timing is better by more than the printed loss, no runs within
+/// the limits and no firsts are better with its cycle, patterns, offsets and grid, and no move of its offsets is. After 4 the certificate is
+/// accepted neither for the artery nor for the widened one, and after 10 there is no plan, for this reason; no file changed.
+pub fn law_whole_says()
+    ensures { WholeSays }
+{
+    certificate_checker::law_accepted_or_refused();
 }
 
 /// A law over the definitions: after status 0 of `narrow` the file that it put holds the text of the described street with its limits of speed moved

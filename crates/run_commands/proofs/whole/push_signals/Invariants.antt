@@ -1,0 +1,7 @@
+use Rattle.std.proofs.Common.{◌≡◌, ◌-◌, ◌++◌, flat_map}
+use Rattle.std.specs.List.{range_with_len}
+use Rattle.run_commands.specs.Whole.{signal_line}
+use Rattle.run_commands.proofs.whole.push_signals.Given as goal
+
+abbrev pub invariant-loop-signal : goal.invariant-loop-signal
+invariant-loop-signal l = l.out.items ≡ l.fn.out.items ++ flat_map (signal_line l.artery l.timing l.offsets) (range_with_len 1 (l.signal - 1))
