@@ -206,7 +206,7 @@ pub const WHOLE: Parts = (
     true,
     &[Setting::WholeCycles],
     true,
-    "put the best plan in whole seconds, speeds free in their limits",
+    "put a plan in whole seconds, with offsets and speeds that widen it",
     "NEW",
 );
 

@@ -1,4 +1,4 @@
--- The best plan in whole seconds over several cycles, or why there is none.
+-- The widest plan in whole seconds that is found over several cycles, or why there is none.
 use Rattle.std.specs.Prelude.{◌≡◌, ℕ, List, [], Option}
 use Rattle.rational_theory.specs.Rational.{ℚ, ◌-ℚ◌}
 use Rattle.narrow_fraction.specs.Past128.{Fits128, Past128}

@@ -1,4 +1,4 @@
-//! The best plan in whole seconds over several cycles, with speeds free.
+//! The widest plan in whole seconds that is found over several cycles, with speeds free.
 //!
 //! Start with `whole_plan`, whose answer is `IsWholePlan`, and its ends `Ends` (`specs/Planned.antt`). Of each cycle the street with it alone
 //! is searched within 10,000 units of work (`specs/Sought.antt`), and the offsets start from the timing that was found, or from the given
