@@ -1,12 +1,10 @@
 pub mod Apart
 pub mod Beside
 pub mod Chains
-pub mod GreenWays
 pub mod Joins
 pub mod Measures
 pub mod Members
 pub mod Passing
 pub mod Plain
 pub mod RedParts
-pub mod Rounds
 pub mod Shown

@@ -18,7 +18,7 @@ use Rattle.diagram_draw.specs.declared.bars.BarPart.{BarPart}
 use Rattle.diagram_draw.specs.declared.bands.BandPart.{BandPart}
 use Rattle.diagram_draw.specs.declared.bands.Edge.{Edge}
 use Rattle.diagram_draw.specs.declared.bands.Edge.TheVariants.{Leaving, Entering}
-use Rattle.diagram_draw.specs.Ways.{has_band}
+use Rattle.timing_words.specs.Ways.{has_band}
 use Rattle.diagram_draw.specs.Bands.{band_paint, line_paint, is_narrow, is_chosen, piece, chosen_piece, band_in_cycle, band_part, edge_pieces, pieces, link_pieces, all_pieces}
 use Rattle.diagram_draw.specs.Bars.{block, blocks, bar_in_cycle, window_part, common_part, turn_part, ground, windows, common_reds, turn_reds, bar, signal_bars, all_bars}
 use Rattle.diagram_draw.specs.Members.{IsBlock, IsRed, IsDrawnPart, IsPiece, IsFieldShape, Piece, Ground, Window, Red, is_red}

@@ -23,7 +23,7 @@ use Rattle.diagram_draw.specs.Bands.{tail, is_seen, is_chosen, band_in_cycle, ba
 use Rattle.diagram_draw.specs.Members.{IsDrawnPart}
 use Rattle.diagram_draw.specs.Laws.{IsWithin, is_passing, IsBandShown, BandsAreShown, PiecesAreSeen, PiecesAreOnce}
 use Rattle.diagram_draw.proofs.Apart.{gap_there, red_some}
-use Rattle.diagram_draw.proofs.GreenWays.{both_true, true_both}
+use Rattle.timing_words.proofs.GreenWays.{both_true, true_both}
 
 -- ---- what is seen
 le_true : (x y : ℤ) → x ≤ℤ y → int_le x y ≡ true

@@ -17,7 +17,7 @@ use Rattle.diagram_draw.specs.declared.bands.Edge.{Edge}
 use Rattle.diagram_draw.specs.declared.bands.Edge.TheVariants.{Leaving, Entering}
 use Rattle.timing_measures.specs.Measures.{after_start}
 use Rattle.diagram_draw.specs.Frames.{bar_height, x_at, level, earlier, later}
-use Rattle.diagram_draw.specs.Ways.{has_band}
+use Rattle.timing_words.specs.Ways.{has_band}
 
 -- the signals at which a direction's traffic enters a link and leaves it
 abbrev pub tail : Dir → ℕ → ℕ

@@ -16,7 +16,7 @@ use Rattle.diagram_draw.specs.declared.frame.Frame.{Frame}
 use Rattle.diagram_draw.specs.declared.bars.BarPart.{BarPart}
 use Rattle.timing_measures.specs.Measures.{after_start}
 use Rattle.diagram_draw.specs.Frames.{bar_height, x_at, level, plot_right, earlier, later}
-use Rattle.diagram_draw.specs.Ways.{has_band}
+use Rattle.timing_words.specs.Ways.{has_band}
 
 -- where a direction's bar begins, and where it ends
 abbrev pub bar_top : Frame → Street → Dir → ℕ → ℤ

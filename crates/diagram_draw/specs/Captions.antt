@@ -14,6 +14,8 @@ use Rattle.progression.specs.declared.parts.Dir.{Dir}
 use Rattle.progression.specs.declared.parts.Dir.TheVariants.{Outbound, Inbound}
 use Rattle.timing_measures.specs.Measures.{seconds, cycle_seconds, offset, link_speed}
 use Rattle.timing_measures.specs.Rounding.{nearest}
+use Rattle.timing_words.specs.Numbers.{tenths, seconds_text, percent_text, moment_text}
+use Rattle.timing_words.specs.Ways.{dir_word, has_band}
 use Rattle.diagram_draw.specs.declared.paint.Letter.{Letter}
 use Rattle.diagram_draw.specs.declared.paint.Letter.TheVariants as letter
 use Rattle.diagram_draw.specs.declared.frame.Frame.{Frame}
@@ -21,7 +23,6 @@ use Rattle.diagram_draw.specs.Shapes.{Caption, Sized}
 use Rattle.diagram_draw.specs.Escapes.{escaped}
 use Rattle.diagram_draw.specs.Widths.{text_width, title_size, subtitle_size, facts_size, name_size, fitting}
 use Rattle.diagram_draw.specs.Frames.{plot_top, plot_width, x_at, level, plot_right, plot_bottom, page_width, name_left, columns_left}
-use Rattle.diagram_draw.specs.Ways.{has_band}
 use Rattle.diagram_draw.specs.Axes.{steps_shown, second_at}
 use Rattle.diagram_draw.specs.Steps.{has_step, step_ticks, step_begin, mark_level}
 
@@ -32,40 +33,23 @@ abbrev pub sized : Letter → ℕ → ℤ → ℤ → List ℕ → Sized
 sized l size x y words = record { letter = l; size = size; x = x; y = y; words = words }
 
 -- ---- numbers
--- so many tenths, hundredths or thousandths
-abbrev pub tenths_text : ℕ → List ℕ
-tenths_text n = decimal (n / 10) ++ (codes "." ++ decimal (n % 10))
-
+-- so many hundredths or thousandths
 abbrev pub hundredths_text : ℕ → List ℕ
 hundredths_text n = decimal (n / 100) ++ (codes "." ++ (decimal (n % 100 / 10) ++ decimal (n % 100 % 10)))
 
 abbrev pub thousandths_text : ℕ → List ℕ
 thousandths_text n = decimal (n / 1000) ++ (codes "." ++ (decimal (n % 1000 / 100) ++ (decimal (n % 1000 % 100 / 10) ++ decimal (n % 1000 % 100 % 10))))
 
--- a number, to the nearest tenth
-abbrev pub tenths : ℚ → List ℕ
-tenths x = tenths_text (nearest x 1)
-
+-- a number, to the nearest hundredth
 abbrev pub hundredths : ℚ → List ℕ
 hundredths x = hundredths_text (nearest x 2)
-
-abbrev pub seconds_text : TimingRecord → ℕ → List ℕ
-seconds_text t ticks = tenths (seconds t ticks)
 
 -- a width in seconds: what is less than a second, to hundredths
 abbrev pub width_text : TimingRecord → ℕ → List ℕ
 width_text t ticks = if nat_le t.grid ticks then seconds_text t ticks else hundredths (seconds t ticks)
 
--- a direction's band in hundredths of the cycle
-abbrev pub percent_text : Street → TimingRecord → Dir → List ℕ
-percent_text a t d = tenths (over (pos (100 * band t d)) (cycle a t))
-
--- an offset that is rounded to the cycle is 0
-abbrev pub offset_tenths : Street → TimingRecord → ℕ → ℕ
-offset_tenths a t i = let n = nearest (offset a t i) 1 in if n == nearest (cycle_seconds a t) 1 then 0 else n
-
 abbrev pub offset_text : Street → TimingRecord → ℕ → List ℕ
-offset_text a t i = tenths_text (offset_tenths a t i)
+offset_text a t i = moment_text a t (offset a t i)
 
 -- ---- above the field
 -- the name of the street, or what the drawing is
@@ -80,10 +64,6 @@ after_name (Some title) = codes ": " ++ escaped title
 
 abbrev pub title_text : Street → Option (List ℕ) → List ℕ
 title_text a title = escaped (name_of a.head.name) ++ after_name title
-
-abbrev pub dir_word : Dir → List ℕ
-dir_word Outbound = codes "outbound"
-dir_word Inbound = codes "inbound"
 
 -- `&#183;` is a point in the middle
 unfoldable pub width_facts : Street → TimingRecord → Dir → List ℕ

@@ -2,7 +2,6 @@ pub mod Shapes
 pub mod Escapes
 pub mod Widths
 pub mod Frames
-pub mod Ways
 pub mod Bars
 pub mod Bands
 pub mod Axes

@@ -11,7 +11,7 @@ use Rattle.diagram_draw.specs.declared.frame.Frame.{Frame}
 use Rattle.diagram_draw.specs.declared.bars.BarPart.{BarPart}
 use Rattle.diagram_draw.specs.declared.bands.BandPart.{BandPart}
 use Rattle.diagram_draw.specs.declared.bands.Edge.{Edge}
-use Rattle.diagram_draw.specs.Ways.{has_band}
+use Rattle.timing_words.specs.Ways.{has_band}
 use Rattle.diagram_draw.specs.Bands.{is_chosen, piece, band_in_cycle, band_part}
 use Rattle.diagram_draw.specs.Bars.{block, bar_in_cycle, window_part, common_part, turn_part, ground}
 

@@ -16,7 +16,8 @@ use Rattle.diagram_draw.specs.Bars.{all_bars}
 use Rattle.diagram_draw.specs.Bands.{all_pieces}
 use Rattle.diagram_draw.specs.Axes.{back}
 use Rattle.diagram_draw.specs.Steps.{steps}
-use Rattle.diagram_draw.specs.Captions.{tenths_text, title_text, facts_text, offset_text, heads, names, captions}
+use Rattle.timing_words.specs.Numbers.{tenths_text}
+use Rattle.diagram_draw.specs.Captions.{title_text, facts_text, offset_text, heads, names, captions}
 
 pub record Drawing : Type 0 where
   pub frame : Frame

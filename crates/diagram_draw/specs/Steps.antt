@@ -13,7 +13,7 @@ use Rattle.diagram_draw.specs.declared.shape.Shape.{Shape}
 use Rattle.diagram_draw.specs.declared.shape.Shape.TheVariants as shape
 use Rattle.diagram_draw.specs.declared.frame.Frame.{Frame}
 use Rattle.diagram_draw.specs.Frames.{bar_height, x_at, level}
-use Rattle.diagram_draw.specs.Ways.{has_band}
+use Rattle.timing_words.specs.Ways.{has_band}
 
 -- at which a direction's line is moved: its clearance at the signal that it comes to first takes part in nothing
 abbrev pub has_step : Street → TimingRecord → Dir → ℕ → Bool

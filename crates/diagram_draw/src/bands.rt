@@ -10,12 +10,12 @@ use crate::bars::after;
 use crate::frame::{Frame, above, below, cycles_ticks, earlier, later, level, moment_after, x_at};
 use crate::paint::Paint;
 use crate::shape::{Shape, Side};
-use crate::ways::has_band;
 use artery_model::{Artery, Dir};
 use narrow_fraction::Memory;
 use std::alloc::{AllocError, Global};
 use time_space::{Timing, line_at};
 use timing_measures::after_start;
+use timing_words::has_band;
 
 /// A part of a band: from the edge of the bars at one signal to that of those at the next.
 #[derive(Clone, Copy)]

@@ -11,12 +11,12 @@ use crate::frame::{
 };
 use crate::paint::Paint;
 use crate::shape::Shape;
-use crate::ways::has_band;
 use artery_model::{Artery, Dir};
 use narrow_fraction::Memory;
 use std::alloc::{AllocError, Global};
 use time_space::{Timing, is_early, line_at, red_start};
 use timing_measures::after_start;
+use timing_words::has_band;
 
 /// A part of a bar.
 #[derive(Clone, Copy)]

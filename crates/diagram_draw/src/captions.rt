@@ -4,11 +4,12 @@ ghost use Rattle.std.specs.{Prelude.{◌≡◌, ◌&&◌, ◌+◌, ◌*◌, ◌/
 ghost use Rattle.progression.specs.{Street.{count}, Best.{weighted_band}};
 ghost use Rattle.progression.specs.declared.parts.Dir.TheVariants.{Outbound, Inbound};
 ghost use Rattle.timing_measures.specs.Rounding.{nearest};
-ghost use Rattle.diagram_draw.specs.{Escapes.{escaped}, Ways.{has_band}};
+ghost use Rattle.timing_words.specs.{Numbers.{seconds_text}, Ways.{dir_word, has_band}};
+ghost use Rattle.diagram_draw.specs.Escapes.{escaped};
 ghost use Rattle.diagram_draw.specs.{declared.paint.Letter.TheVariants.{Facts, HeadEnd, Number}, Frames.{IsFrame}};
 ghost use Rattle.diagram_draw.specs.Shapes.{words_opening, words_text, sized_opening, sized_words_text, sized_text, caption_text, captions_text, sizeds_text};
-ghost use Rattle.diagram_draw.specs.Captions.{thousandths_text, tenths, hundredths, seconds_text, width_text, percent_text, offset_tenths};
-ghost use Rattle.diagram_draw.specs.Captions.{offset_text, name_of, after_name, title_text, dir_word, width_facts, band_facts, cycle_facts, weighted_facts};
+ghost use Rattle.diagram_draw.specs.Captions.{thousandths_text, hundredths, width_text};
+ghost use Rattle.diagram_draw.specs.Captions.{offset_text, name_of, after_name, title_text, width_facts, band_facts, cycle_facts, weighted_facts};
 ghost use Rattle.diagram_draw.specs.Captions.{facts_text, head_room, bold_room, name_head, title_head, title_heads, heads, facts_level, unit_of_length, unit_of_speed};
 ghost use Rattle.diagram_draw.specs.Captions.{head_level, signal_heads, lengths_head, link_heads, cycles_text};
 ghost use Rattle.diagram_draw.specs.Captions.{cycle_number, cycle_numbers, second_number, second_numbers, row_level, turn_word, turn_text, pattern_text, name_caption, names};
@@ -25,25 +26,14 @@ use crate::frame::{
 use crate::paint::Letter;
 use crate::shape::{push_sized_opening, push_words_end, push_words_opening};
 use crate::steps::{has_step, mark_level, step_begin, step_ticks};
-use crate::ways::has_band;
 use crate::width::{FACTS_SIZE, NAME_SIZE, SUBTITLE_SIZE, TITLE_SIZE, fitting, text_width};
 use artery_model::{Artery, Dir, Units};
 use narrow_fraction::{Frac, Memory};
 use progression::Text;
 use quantity_text::{push_number, push_text};
 use time_space::{Timing, cycle, is_early, value};
-use timing_measures::{
-    Rounded, cycle_seconds, offset, quotient, round_to, seconds, signal_name, some_speed,
-};
-
-/// Writes a whole number and a digit behind the point.
-fn push_digit(out: &mut Vec<u8>, number: Rounded) -> Result<(), Memory>
-    ensures { OnOk result (out.new.items ≡ out.old.items ++ (decimal number.whole ++ (codes "." ++ decimal number.rest))) }
-{
-    push_number(out, number.whole)?;
-    push_text(out, ".")?;
-    push_number(out, number.rest as u128)
-}
+use timing_measures::{cycle_seconds, offset, round_to, seconds, signal_name, some_speed};
+use timing_words::{dir_word, has_band, push_moment, push_percent, push_seconds, push_tenths};
 
 /// Writes two digits.
 fn push_two_digits(out: &mut Vec<u8>, digits: u32) -> Result<(), Memory>
@@ -51,15 +41,6 @@ fn push_two_digits(out: &mut Vec<u8>, digits: u32) -> Result<(), Memory>
 {
     push_number(out, (digits / 10) as u128)?;
     push_number(out, (digits % 10) as u128)
-}
-
-/// Writes a number, to the nearest tenth.
-fn push_tenths(out: &mut Vec<u8>, value: Frac) -> Result<(), Memory>
-    requires least { pos 0 ≤ℤ value.num }
-    requires denominator { value.den ≤ 2 ^ 120 }
-    ensures { OnOk result (out.new.items ≡ out.old.items ++ tenths value) }
-{
-    push_digit(out, round_to(value, 1))
 }
 
 /// Writes a number, to the nearest hundredth.
@@ -87,14 +68,6 @@ fn push_thousandths(out: &mut Vec<u8>, value: Frac) -> Result<(), Memory>
     push_two_digits(out, number.rest % 100)
 }
 
-/// Writes ticks as seconds.
-fn push_seconds(out: &mut Vec<u8>, timing: &Timing, ticks: u128) -> Result<(), Memory>
-    requires { ticks < 2 ^ 126 }
-    ensures { OnOk result (out.new.items ≡ out.old.items ++ seconds_text timing.now ticks) }
-{
-    push_tenths(out, seconds(timing, ticks))
-}
-
 /// Writes a width in seconds: what is less than a second, to hundredths.
 fn push_width(out: &mut Vec<u8>, timing: &Timing, ticks: u128) -> Result<(), Memory>
     requires { ticks < 2 ^ 126 }
@@ -105,30 +78,6 @@ fn push_width(out: &mut Vec<u8>, timing: &Timing, ticks: u128) -> Result<(), Mem
     } else {
         push_hundredths(out, seconds(timing, ticks))
     }
-}
-
-/// Writes a direction's band in hundredths of the cycle.
-fn push_percent(out: &mut Vec<u8>, artery: &Artery, timing: &Timing, dir: Dir) -> Result<(), Memory>
-    ensures { OnOk result (out.new.items ≡ out.old.items ++ percent_text artery.now timing.now dir) }
-{
-    let share = quotient(100 * timing.band(dir), cycle(artery, timing));
-    push_tenths(out, share)
-}
-
-/// The offset of a signal in seconds, to the nearest tenth; one that is rounded to the cycle is 0.
-#[tactic(auto, using(crate::proofs::Rounds::same_tenths))]
-fn rounded_offset(artery: &Artery, timing: &Timing, signal: u32) -> Rounded
-    requires first { 1 ≤ signal }
-    requires last { signal ≤ length timing.now.patterns }
-    ensures whole { result.whole ≡ offset_tenths artery.now timing.now signal / 10 }
-    ensures rest { result.rest ≡ offset_tenths artery.now timing.now signal % 10 }
-{
-    let near = round_to(offset(artery, timing, signal), 1);
-    let whole = round_to(cycle_seconds(artery, timing), 1);
-    if near.whole == whole.whole && near.rest == whole.rest {
-        return Rounded { whole: 0, rest: 0 };
-    }
-    near
 }
 
 /// Writes the offset of a signal.
@@ -142,7 +91,7 @@ pub fn push_offset(
     requires last { signal ≤ length timing.now.patterns }
     ensures { OnOk result (out.new.items ≡ out.old.items ++ offset_text artery.now timing.now signal) }
 {
-    push_digit(out, rounded_offset(artery, timing, signal))
+    push_moment(out, artery, timing, offset(artery, timing, signal))
 }
 
 /// The name of the street, or what the drawing is.
@@ -181,15 +130,6 @@ pub fn push_title(out: &mut Vec<u8>, artery: &Artery, title: Option<&str>) -> Re
 {
     push_escaped(out, street_name(artery).as_bytes())?;
     push_after_name(out, title)
-}
-
-fn dir_word(dir: Dir) -> &'static str
-    ensures { result.now ≡ dir_word dir }
-{
-    match dir {
-        Dir::Outbound => "outbound",
-        Dir::Inbound => "inbound",
-    }
 }
 
 /// Writes a band in seconds and as a part of the cycle.

@@ -1,6 +1,6 @@
 //! What the drawing says of the model.
 
-ghost use Rattle.diagram_draw.specs.{Escapes.{EscapedIsPlain}, Ways.{BandsAreGreenWays}};
+ghost use Rattle.diagram_draw.specs.Escapes.{EscapedIsPlain};
 ghost use Rattle.diagram_draw.specs.Laws.{PlacesAscend, RedsHaveTwoParts, BandsMissReds, RedsAreShown, PiecesMeetWindows, BandsAreShown, PiecesAreSeen, PiecesAreOnce};
 ghost use Rattle.diagram_draw.specs.Laws.{SignalsRise, PiecesJoinBars, PiecesMissBars, FieldIsExact, RedsAreReds};
 
@@ -12,11 +12,6 @@ pub fn law_places_ascend()
 /// The law that the common red and the rest of a direction's red are the whole of it, one after the other, and which is which.
 pub fn law_reds_have_two_parts()
     ensures { RedsHaveTwoParts }
-{}
-
-/// The law that a direction has a band exactly where every line of it crosses every signal in green.
-pub fn law_bands_are_green_ways()
-    ensures { BandsAreGreenWays }
 {}
 
 /// The law that a direction's band is drawn over no red of the direction, in whatever cycles the two are.

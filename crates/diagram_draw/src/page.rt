@@ -3,7 +3,8 @@
 ghost use Rattle.std.specs.{Prelude.{◌≡◌, ◌+◌, ◌/◌, ◌%◌, ◌≤◌, ◌++◌, codes, IfOk, OnOk, option_map, pos, length}, Fmt.{decimal}};
 ghost use Rattle.progression.specs.Street.{count};
 ghost use Rattle.diagram_draw.specs.{declared.shape.Shape.TheVariants.{Rect}, Shapes.{shapes_text}, Frames.{IsFrame}, Axes.{back}, Steps.{steps}};
-ghost use Rattle.diagram_draw.specs.{Captions.{tenths_text, title_text}, Pages.{head_text, body_text, tail_text, svg_text}};
+ghost use Rattle.timing_words.specs.Numbers.{tenths_text};
+ghost use Rattle.diagram_draw.specs.{Captions.{title_text}, Pages.{head_text, body_text, tail_text, svg_text}};
 ghost use Rattle.diagram_draw.specs.Pages.{key_bar, key_piece, key_shapes, signal_about, signals_about, about_text, field_shapes, drawn, drawing};
 ghost use Rattle.diagram_draw.specs.Pages.{plot_clip, paper_text, size_text, box_text, svg_opening, title_part, about_part, opening_text, definitions_text, field_part};
 

@@ -8,12 +8,12 @@ ghost use Rattle.diagram_draw.specs.Steps.{has_step, step_ticks, step_moment, st
 use crate::frame::{BAR_HEIGHT, Frame, level, x_at};
 use crate::paint::Paint;
 use crate::shape::Shape;
-use crate::ways::has_band;
 use artery_model::{Artery, Dir};
 use narrow_fraction::Memory;
 use std::alloc::{AllocError, Global};
 use time_space::{Timing, line_at};
 use timing_measures::after_start;
+use timing_words::has_band;
 
 /// The signal that a direction comes to first.
 fn first_stop(artery: &Artery, dir: Dir) -> u32

@@ -1,6 +1,7 @@
 use Rattle.std.proofs.Common.{◌++◌, ◌∙◌, codes}
 use Rattle.std.proofs.lemmas.Result.{on_ok_weaker}
-use Rattle.diagram_draw.specs.Captions.{tenths, cycle_facts}
+use Rattle.timing_words.specs.Numbers.{tenths}
+use Rattle.diagram_draw.specs.Captions.{cycle_facts}
 use Rattle.quantity_text.proofs.Pushed.{three_pushed}
 use Rattle.diagram_draw.proofs.captions.push_cycle_facts.Goals as goal
 

@@ -3,7 +3,7 @@ use Rattle.std.specs.Int.{w128}
 use Rattle.std.proofs.lemmas.Int.{to_z-of_z}
 use Rattle.std.proofs.lemmas.Result.{on_ok_weaker}
 use Rattle.diagram_draw.specs.declared.paint.Letter.TheVariants.{Mark}
-use Rattle.diagram_draw.specs.Captions.{seconds_text}
+use Rattle.timing_words.specs.Numbers.{seconds_text}
 use Rattle.diagram_draw.specs.Shapes.{words_opening, words_text}
 use Rattle.quantity_text.proofs.Pushed.{three_pushed}
 use Rattle.diagram_draw.proofs.captions.push_mark.Goals as goal

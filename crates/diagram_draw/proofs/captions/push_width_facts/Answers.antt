@@ -1,6 +1,7 @@
 use Rattle.std.proofs.Common.{◌++◌, ◌∙◌, codes}
 use Rattle.std.proofs.lemmas.Result.{on_ok_weaker}
-use Rattle.diagram_draw.specs.Captions.{percent_text, width_facts, width_text}
+use Rattle.timing_words.specs.Numbers.{percent_text}
+use Rattle.diagram_draw.specs.Captions.{width_facts, width_text}
 use Rattle.quantity_text.proofs.Pushed.{five_pushed}
 use Rattle.diagram_draw.proofs.captions.push_width_facts.Goals as goal
 

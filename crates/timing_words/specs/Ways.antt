@@ -1,11 +1,16 @@
--- Which bands a drawing shows: a direction has one exactly where every line of it crosses every signal in green.
-use Rattle.std.specs.Prelude.{ℕ, ◌+◌, Bool, IsTrue, ◌↔◌, pos, ◌+ℤ◌}
+-- The two directions in words, and which of them has a band: that of which every line crosses every signal in green.
+use Rattle.std.specs.Prelude.{ℕ, ◌+◌, Bool, IsTrue, ◌↔◌, pos, ◌+ℤ◌, List, codes}
 use Rattle.std.specs.List.{list_all, range_with_len}
 use Rattle.progression.specs.Street.{Street, count}
 use Rattle.progression.specs.TimingRecord.{TimingRecord, cycle, band}
 use Rattle.progression.specs.Green.{is_green, red_start, red_ticks}
 use Rattle.progression.specs.Lines.{stop, crossing, IsGreenWay}
 use Rattle.progression.specs.declared.parts.Dir.{Dir}
+use Rattle.progression.specs.declared.parts.Dir.TheVariants.{Outbound, Inbound}
+
+abbrev pub dir_word : Dir → List ℕ
+dir_word Outbound = codes "outbound"
+dir_word Inbound = codes "inbound"
 
 -- at the j-th signal in travel order
 abbrev pub is_green_stop : Street → TimingRecord → Dir → ℕ → Bool
@@ -15,6 +20,6 @@ is_green_stop a t d j = let i = stop d (count a) j in
 unfoldable pub has_band : Street → TimingRecord → Dir → Bool
 has_band a t d = list_all (is_green_stop a t d) (range_with_len 0 (count a))
 
--- so a direction's band is drawn exactly where its rule holds
+-- so a direction has a band exactly where its rule holds
 abbrev pub BandsAreGreenWays : Type 0
 BandsAreGreenWays = (a : Street) (t : TimingRecord) (d : Dir) → IsTrue (has_band a t d) ↔ IsGreenWay a t d

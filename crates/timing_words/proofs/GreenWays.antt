@@ -6,7 +6,7 @@ use Rattle.progression.specs.Street.{Street, count}
 use Rattle.progression.specs.TimingRecord.{TimingRecord, band}
 use Rattle.progression.specs.Lines.{IsGreenWay}
 use Rattle.progression.specs.declared.parts.Dir.{Dir}
-use Rattle.diagram_draw.specs.Ways.{is_green_stop, has_band, BandsAreGreenWays}
+use Rattle.timing_words.specs.Ways.{is_green_stop, has_band, BandsAreGreenWays}
 
 -- ---- tests of numbers
 pub both_true : (a b : Bool) → IsTrue (a && b) → IsTrue a × IsTrue b

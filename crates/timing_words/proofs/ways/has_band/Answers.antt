@@ -1,5 +1,5 @@
-use Rattle.diagram_draw.proofs.GreenWays.{same_way}
-use Rattle.diagram_draw.proofs.ways.has_band.Goals as goal
+use Rattle.timing_words.proofs.GreenWays.{same_way}
+use Rattle.timing_words.proofs.ways.has_band.Goals as goal
 
 pub returns : goal.returns
 returns c = same_way c.args.artery.now c.args.timing.now c.args.dir c.is_green_way.result c.is_green_way.ensures

@@ -1,5 +1,0 @@
-use Rattle.diagram_draw.proofs.GreenWays.{green_ways}
-use Rattle.diagram_draw.proofs.laws.law_bands_are_green_ways.Goals as goal
-
-pub returns : goal.returns
-returns c a t d = green_ways a t d

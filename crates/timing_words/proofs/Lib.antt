@@ -1,0 +1,2 @@
+pub mod GreenWays
+pub mod Rounds
