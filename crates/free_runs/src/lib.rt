@@ -8,8 +8,10 @@
 //! runs of the answer stand in travel order: entry j is the run of link `leg d n j`.
 #![tactic(auto)]
 
+mod fractions;
 mod limits;
 mod street;
 
+pub use fractions::{denominator, numerator};
 pub use limits::{RunLimits, run_limits};
 pub use street::widest_band;

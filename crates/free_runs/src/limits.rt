@@ -5,15 +5,20 @@ ghost use Rattle.rational_theory.specs.Rational.{◌*ℚ◌, ◌≤ℚ◌};
 ghost use Rattle.progression.specs.{Street.{count}, Speeds.{number}};
 ghost use Rattle.free_runs.specs.Street.{AreLimits};
 
+use crate::fractions::{denominator, numerator};
 use artery_model::Artery;
 use narrow_fraction::Frac;
 use progression::Dir;
 use time_space::Timing;
 
-/// The least and the greatest run on a link, in ticks.
+/// The limits of the run on a link, in whole ticks: every run from `least` to `most` is within the limits of speed.
+///
+/// Where no whole tick lies between the limits `least` is above `most`, and no run is.
 #[derive(Clone, Copy)]
 pub struct RunLimits {
+    /// The least number of ticks that isn't below the run at the greatest speed.
     pub least: u128,
+    /// The greatest number of ticks that isn't above the run at the least speed.
     pub most: u128,
 }
 
@@ -43,15 +48,7 @@ fn top_of(limit: Frac, grid: u128) -> u128
     ensures value { pos result ≡ limit.num *ℤ pos grid }
     ensures small { result < 2 ^ 120 }
 {
-    limit.num() as u128 * grid
-}
-
-/// The denominator of a limit.
-fn bottom_of(limit: Frac) -> u128
-    ensures value { result ≡ limit.den }
-    ensures some { 0 < result }
-{
-    limit.den() as u128
+    numerator(limit) * grid
 }
 
 /// The least number of ticks that is at least so many seconds.
@@ -63,7 +60,7 @@ fn least_ticks(limit: Frac, grid: u128) -> u128
     ensures { (n : ℕ) → ((limit *ℚ number grid) ≤ℚ number n) ↔ (result ≤ n) }
 {
     let top = top_of(limit, grid);
-    let bottom = bottom_of(limit);
+    let bottom = denominator(limit);
     least_of(top, bottom)
 }
 
@@ -75,11 +72,11 @@ fn most_ticks(limit: Frac, grid: u128) -> u128
     ensures { (n : ℕ) → (number n ≤ℚ (limit *ℚ number grid)) ↔ (n ≤ result) }
 {
     let top = top_of(limit, grid);
-    let bottom = bottom_of(limit);
+    let bottom = denominator(limit);
     most_of(top, bottom)
 }
 
-/// The limits of the run on a link.
+/// The limits of the run on a link from 1 to the last, on the timing's grid. On a coarse grid `least` may be above `most`.
 pub fn run_limits(artery: &Artery, timing: &Timing, dir: Dir, link: u32) -> RunLimits
     requires first { 1 ≤ link }
     requires last { link < count artery.now }

@@ -62,7 +62,7 @@ pub record IsBasis (a : Street) (w : Warrant) (claim : ℚ) (start : Option Timi
   pub bounded : Bounded a claim
   pub serves : IsOwnStart a w.timing start
 
--- The best plan in whole seconds over the tried cycles, what it loses at most against every timing, and its text, which is read back. No runs and no firsts make
+-- The widest plan in whole seconds that is found over the tried cycles, what it loses at most against every timing, and its text, which is read back. No runs and no firsts make
 -- it better, and no move of its offsets does.
 pub record IsWhole (a : Street) (w : Warrant) (named lines text : List ℕ) : Type 0 where
   pub claim : ℚ

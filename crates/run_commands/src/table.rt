@@ -468,7 +468,7 @@ pub const MAKE: Parts = (
     false,
     &[Setting::Signals, Setting::Seed],
     false,
-    "write the description of an artery from a seed",
+    "write the description of a street made from a seed",
     "",
 );
 
@@ -487,7 +487,7 @@ pub const TRIAL: Parts = (
     false,
     &[Setting::Signals, Setting::Seed, Setting::Limit],
     true,
-    "search such an artery, and check the certificate",
+    "search such a street, and check the certificate",
     "",
 );
 

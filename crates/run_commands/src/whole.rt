@@ -179,7 +179,7 @@ fn plan_claimed(
     plan_from(alloc, artery, certificate, claim, &None, named)
 }
 
-/// Makes the best plan in whole seconds over the tried cycles, and tells what it loses at most against every timing, by a certificate that is
+/// Makes the widest plan in whole seconds that is found over the tried cycles, and tells what it loses at most against every timing, by a certificate that is
 /// accepted for the street or for the widened street. Its text is put; nothing is where the certificate is rejected, or where there is
 /// no plan.
 fn plan_whole(

@@ -1,5 +1,5 @@
-//! Best plans in whole seconds of two signals 250 metres apart at 36 kilometres an hour, with equal reds of half the cycle. The run both
-//! ways is 50 seconds, so at a cycle of 50 both bands have half of it, at 75 a third, and at 100 a quarter.
+//! The widest plans in whole seconds that are found, of two signals 250 metres apart at 36 kilometres an hour, with equal reds of half the
+//! cycle. The run both ways is 50 seconds, so at a cycle of 50 both bands have half of it, at 75 a third, and at 100 a quarter.
 
 use artery_model::Artery;
 use narrow_fraction::Frac;

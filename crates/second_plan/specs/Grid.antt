@@ -7,20 +7,31 @@ use Rattle.progression.specs.TimingRecord.{TimingRecord, cycle}
 abbrev pub fineness : Street → ℕ
 fineness a = 2 * a.head.parts
 
--- The timing in k seconds with these offsets, its runs as long as they were. Its firsts and bands are 0.
-abbrev pub in_seconds : Street → TimingRecord → ℕ → List ℕ → TimingRecord
-in_seconds a t k offsets = record {
-  grid = t.grid * fineness a;
-  unit = 2 * k * t.grid;
+-- the plan's ticks in a second, and in a part of a cycle of k seconds
+abbrev pub plan_grid : Street → TimingRecord → ℕ
+plan_grid a t = t.grid * fineness a
+
+abbrev pub plan_unit : TimingRecord → ℕ → ℕ
+plan_unit t k = 2 * k * t.grid
+
+-- the timing on another grid, with these offsets and runs; its firsts and bands are 0
+abbrev pub on_grid : ℕ → ℕ → List ℕ → List ℕ → List ℕ → TimingRecord → TimingRecord
+on_grid grid unit offsets run_out run_in t = record {
+  grid = grid;
+  unit = unit;
   patterns = t.patterns;
-  reds = map (λ offset. pos (offset * (t.grid * fineness a))) offsets;
-  run_out = map (λ n. n * fineness a) t.run_out;
-  run_in = map (λ n. n * fineness a) t.run_in;
+  reds = map (λ offset. pos (offset * grid)) offsets;
+  run_out = run_out;
+  run_in = run_in;
   first_out = pos 0;
   first_in = pos 0;
   band_out = 0;
   band_in = 0;
 }
+
+-- The timing in k seconds with these offsets, its runs as long as they were.
+abbrev pub in_seconds : Street → TimingRecord → ℕ → List ℕ → TimingRecord
+in_seconds a t k offsets = on_grid (plan_grid a t) (plan_unit t k) offsets (map (λ n. n * fineness a) t.run_out) (map (λ n. n * fineness a) t.run_in) t
 
 -- its grid, its runs, outbound and inbound, and its cycle
 abbrev pub sizes : Street → TimingRecord → ℕ → List ℕ

@@ -19,16 +19,21 @@ pub struct Plan {
     pub loss: Frac,
 }
 
-/// Why there is no plan.
+/// Why there is no plan: of one timing, or over several cycles with free runs.
+///
+/// `plan` tells the first that applies, in this order. Over several cycles `NoWholeCycle` comes where none is left; `NoTimingGiven` and
+/// `TooFine` where no cycle has a plan, and they are the first cycle's; the others are those of the best plan that
+/// was found, and of these `Fails` comes before `NoLine`.
 #[derive(Clone, Copy, PartialEq, Eq)]
 pub enum PlanEnd {
     /// There is no timing to start from. `plan` never answers this: it is for callers that may have none.
     NoTimingGiven,
-    /// No whole number of seconds is within the limits of the cycle.
+    /// No whole number of seconds is within the limits of the cycle; of cycles that are named, none of them is.
     NoWholeCycle,
-    /// The first number of ticks of the plan, of its grid, its runs and its cycle, that is `2^80` or more.
+    /// The first number of ticks of the plan, of its grid, its runs and its cycle, that is `2^80` or more. Where runs are free, the
+    /// greatest that the limits of speed allow stand for them.
     TooFine { ticks: u128 },
-    /// No line of this direction crosses every signal in green. Outbound is looked at first.
+    /// No line of this direction crosses every signal in green, where runs are free with none of them. Outbound is looked at first.
     NoLine { dir: Dir },
     /// The plan fails this rule, which is that of a least band.
     Fails(Failing),

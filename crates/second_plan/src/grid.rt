@@ -3,14 +3,23 @@
 ghost use Rattle.std.specs.Prelude.{◌≡◌, ◌<◌, ◌≤◌, ◌*◌, ◌^◌, pos, length, map, find, nat_le, [], ◌∷◌, All, None, IfOk};
 ghost use Rattle.progression.specs.{Street.{count}, TimingRecord.{cycle}};
 ghost use Rattle.band_measure.specs.Pairs.{with_pairs};
-ghost use Rattle.second_plan.specs.{Grid.{fineness, in_seconds, too_fine}, Seconds.{IsRounded}};
+ghost use Rattle.second_plan.specs.{Grid.{fineness, plan_grid, plan_unit, in_seconds, too_fine}, Seconds.{IsRounded}};
 
 use crate::seconds::Rounded;
 use artery_model::Artery;
-use band_measure::{BothPairs, GridScale, timing_with};
+use band_measure::{BothPairs, GridScale, Widest, timing_with};
 use narrow_fraction::Memory;
 use std::alloc::Global;
 use time_space::{LIMIT, Timing};
+
+/// A first line and a band of 0: in place of a pair where none is known yet, or none runs.
+pub const NO_PAIR: Widest = Widest { first: 0, band: 0 };
+
+/// The same in both directions.
+pub const NO_PAIRS: BothPairs = BothPairs {
+    outbound: NO_PAIR,
+    inbound: NO_PAIR,
+};
 
 /// How many ticks of the plan a tick of the timing has.
 fn fineness(artery: &Artery) -> u128
@@ -22,7 +31,7 @@ fn fineness(artery: &Artery) -> u128
 
 /// The plan's ticks in a second.
 fn grid(artery: &Artery, timing: &Timing) -> u128
-    ensures value { result ≡ timing.now.grid * fineness artery.now }
+    ensures value { result ≡ plan_grid artery.now timing.now }
     ensures small { result < 2 ^ 93 }
 {
     timing.grid() * fineness(artery)
@@ -31,7 +40,7 @@ fn grid(artery: &Artery, timing: &Timing) -> u128
 /// The plan's ticks in a part.
 fn unit(timing: &Timing, seconds: u64) -> u128
     requires small { seconds ≤ 3600 }
-    ensures value { result ≡ 2 * seconds * timing.now.grid }
+    ensures value { result ≡ plan_unit timing.now seconds }
     ensures small { result < 2 ^ 93 }
 {
     2 * u128::from(seconds) * timing.grid()
@@ -86,8 +95,8 @@ fn multiples(alloc: Global, numbers: &[u128], by: u128) -> Result<Vec<u128>, Mem
     Ok(made)
 }
 
-/// The starts of the reds, in ticks of the plan.
-fn reds(alloc: Global, offsets: &[u64], grid: u128) -> Result<Vec<u128>, Memory>
+/// The starts of reds at offsets in whole seconds, in ticks of a grid.
+pub fn reds(alloc: Global, offsets: &[u64], grid: u128) -> Result<Vec<u128>, Memory>
     requires offsets { All (λ n. n < 3600) offsets.now }
     requires grid { grid < 2 ^ 93 }
     ensures { IfOk result (λ made. made.items ≡ map (λ offset. offset * grid) offsets.now) }

@@ -16,7 +16,7 @@
 //! leaves 128 bits. `NoTimingGiven` is never answered: it is for a caller that may have no timing. Laws over the definitions: at
 //! most one end comes (`law_one_end`), none where there is a plan (`law_plan_or_end`), and the plan's numbers are determined
 //! (`law_one_plan`), so that each end comes exactly where it is said, but for want of memory.
-#![tactic(auto, using(rational_theory::proofs::Compare::ne_false, rational_theory::proofs::Compare::eq_true, rational_theory::proofs::Compare::lt_true, rational_theory::proofs::Compare::lt_false, rational_theory::proofs::Compare::le_true, rational_theory::proofs::Compare::le_false))]
+#![tactic(auto)]
 
 mod answer;
 mod grid;
@@ -26,7 +26,7 @@ mod planning;
 mod seconds;
 
 pub use answer::{Plan, PlanEnd, PlanFault};
-pub use grid::{timed, too_fine};
+pub use grid::{NO_PAIR, NO_PAIRS, reds, timed, too_fine};
 pub use laws::{law_one_end, law_one_plan, law_plan_or_end};
 pub use planning::plan;
 pub use seconds::{Rounded, offsets};

@@ -9,7 +9,7 @@ ghost use Rattle.second_plan.specs.{Grid.{in_seconds}, Planned.{AreWhole, IsPlan
 ghost use Rattle.second_plan.specs.Seconds.{IsRounded};
 
 use crate::answer::{Plan, PlanEnd, PlanFault};
-use crate::grid::{timed, too_fine};
+use crate::grid::{NO_PAIRS, timed, too_fine};
 use crate::seconds::{Rounded, offsets, whole_cycle};
 use artery_model::Artery;
 use band_measure::{
@@ -83,12 +83,7 @@ fn planned(
     ensures best { IfOk result (λ plan. IsBestOfOffsets artery.now plan) }
     ensures faults { IfErr result (λ f. (claim : ℚ) → Faults artery.now claim timing.now f) }
 {
-    let line = Widest { first: 0, band: 0 };
-    let lines = BothPairs {
-        outbound: line,
-        inbound: line,
-    };
-    let frame = timed(alloc, artery, timing, rounded, lines)?;
+    let frame = timed(alloc, artery, timing, rounded, NO_PAIRS)?;
     let Some(outbound) = widest(artery, &frame, Dir::Outbound) else {
         return Err(PlanFault::End(PlanEnd::NoLine { dir: Dir::Outbound }));
     };

@@ -1,115 +1,136 @@
--- The offsets after a move are determined, and the moves that are tried are all.
-use Rattle.std.proofs.Common.{◌≡◌, ℕ, suc, ◌+◌, ◌-◌, ◌*◌, ◌<◌, ◌≤◌, List, length, refl, sym, ◌∙◌, ap, subst, arith, inl, inr, add-one, Option, None, Some}
-use Rattle.std.specs.Prelude.{◌⊎◌, IfNone, IfSome, IfOk, Result, Ok, Err}
-use Rattle.std.proofs.lemmas.List.{ext_get_or}
-use Rattle.std.proofs.lemmas.Bool.{cases_lt}
+-- What is made of the moves: the best of them, of equally good ones the first.
+use Rattle.std.proofs.Common.{◌≡◌, ℕ, ◌+◌, ◌-◌, ◌<◌, ◌≤◌, List, [], ◌∷◌, ◌++◌, length, refl, sym, ◌∙◌, ap, subst, arith, Option, Some, None, All, map, append_assoc}
+use Rattle.std.specs.Prelude.{IfOk, Result, Ok, Err}
+use Rattle.std.specs.List.{range_with_len}
+use Rattle.std.proofs.lemmas.List.{ext_get_or, append-nil}
+use Rattle.std.proofs.lemmas.List.Elements.{All-append, All-push, All-contains}
+use Rattle.std.proofs.lemmas.List.FromFn.{map-range_with_len_more}
 use Rattle.progression.specs.Street.{Street}
 use Rattle.progression.specs.TimingRecord.{TimingRecord}
 use Rattle.artery_model.specs.Valid.{IsValid}
 use Rattle.band_measure.proofs.Lines.{own_pair}
 use Rattle.second_plan.specs.declared.seconds.Rounded.{Rounded}
 use Rattle.whole_offsets.proofs.Same.{no_better_plan}
+use Rattle.whole_offsets.proofs.Scores.{better_trans, better_over}
 use Rattle.whole_offsets.specs.Offsets.{IsPlanOf}
-use Rattle.whole_offsets.specs.Moves.{IsStep, IsMoved}
-use Rattle.whole_offsets.specs.Score.{IsBetter, IsBetterPlan}
-use Rattle.whole_offsets.specs.Tried.{IsTried, IsNoBetter, NoneBetterAt, NoMoveIsBetter, stop_of}
+use Rattle.whole_offsets.specs.Moves.{IsMoved, moves, moves_by, stop_of}
+use Rattle.whole_offsets.specs.Score.{IsBetter}
+use Rattle.whole_offsets.specs.Tried.{IsTried, IsAfter, HasPlan, IsMade, IsMadeWith, NoMoveIsBetter}
+use Rattle.whole_offsets.specs.declared.moves.Move.{Move}
+use Rattle.whole_offsets.specs.declared.moves.Reach.{Reach}
 use Rattle.whole_offsets.specs.declared.plan.Tried.{Tried}
-use Rattle.whole_offsets.specs.declared.search.Reach.{Reach}
-use Rattle.whole_offsets.specs.declared.search.Reach.TheVariants.{One, On}
+use Rattle.whole_offsets.specs.declared.score.Score.{Score}
 
-pub one_move : (k : ℕ) (offsets : List ℕ) (start stop step : ℕ) (others us : List ℕ) → IsMoved k offsets start stop step others → IsMoved k offsets start stop step us → others ≡ us
-one_move k offsets start stop step others us h g =
+one_moved : (k : ℕ) (offsets : List ℕ) (m : Move) (others us : List ℕ) → IsMoved k offsets m others → IsMoved k offsets m us → others ≡ us
+one_moved k offsets m others us h g =
     let long = h.as_many in
-    ext_get_or 0 others us (h.as_many ∙ sym g.as_many) (λ i l. let m : i < length offsets = omega (arith, long, l) in h.each i m ∙ sym (g.each i m))
+    ext_get_or 0 others us (h.as_many ∙ sym g.as_many) (λ i l. let n : i < length offsets = omega (arith, long, l) in h.each i n ∙ sym (g.each i n))
 
--- nothing comes of nothing
-pub none_of : {A : Type 0} (P : Type 0) (o : Option A) → IfNone o P → o ≡ None → P
-none_of P None h e = h
-none_of P (Some x) h e = absurd (cc)
+none_in : {X : Type 0} (P : X → Type 0) → All P []
+none_in P i d l = absurd (omega arith)
 
-module _ (a : Street) (t : TimingRecord) (k : ℕ) (x : Tried) where
-  pub all_moves : ((step : ℕ) → IsStep k step → NoneBetterAt a t k x One step (length x.rounded.offsets.items))
-      → ((step : ℕ) → IsStep k step → NoneBetterAt a t k x On step (length x.rounded.offsets.items))
-      → NoMoveIsBetter a t k x
-  all_moves one on other q m = by_reach m.reach
-    where
-      by_reach : (m.stop ≡ suc m.start) ⊎ (m.stop ≡ length x.rounded.offsets.items) → IsPlanOf a t k other q → ¬ IsBetterPlan a q x.timing
-      by_reach (inl e) = one m.step m.step_is m.start m.not_first m.signal other q (subst (λ s. IsMoved k x.rounded.offsets.items m.start s m.step other) (e ∙ sym (add-one m.start)) m.is)
-      by_reach (inr e) = on m.step m.step_is m.start m.not_first m.signal other q (subst (λ s. IsMoved k x.rounded.offsets.items m.start s m.step other) e m.is)
+each_of : {X : Type 0} (P Q : X → Type 0) (xs : List X) → ((x : X) → P x → Q x) → All P xs → All Q xs
+each_of P Q xs f h i d l = f _ (h i d l)
 
--- the four steps are all
-pub all_steps : (k : ℕ) (P : ℕ → Type 0) → P 1 → P (k - 1) → P 2 → P (2 * k - 2) → (step : ℕ) → IsStep k step → P step
-all_steps k P one two three four step (inl e) = subst P (sym e) one
-all_steps k P one two three four step (inr (inl e)) = subst P (sym e) two
-all_steps k P one two three four step (inr (inr (inl e))) = subst P (sym e) three
-all_steps k P one two three four step (inr (inr (inr e))) = subst P (sym e) four
-
--- what is held
-pub some_of : {A : Type 0} (P : A → Type 0) (o : Option A) (x : A) → IfSome o P → o ≡ Some x → P x
-some_of P o x h e = subst (λ r. IfSome r P) e h
-
-pub none_map : {A : Type 0} (P Q : Type 0) (o : Option A) → (P → Q) → IfNone o P → IfNone o Q
-none_map P Q None f h = f h
-none_map P Q (Some x) f h = h
-
--- where a move's plan isn't better, no other plan of its offsets is
-pub no_better_move : (a : Street) → IsValid a → (t : TimingRecord) (k : ℕ) (there found : Tried) (rounded : Rounded) (start stop step : ℕ) → IsTried a t k there
-    → IsTried a t rounded.seconds found → rounded.seconds ≡ k
-    → found.rounded ≡ rounded → IsMoved k there.rounded.offsets.items start stop step rounded.offsets.items → ¬ IsBetter found.score there.score → IsNoBetter a t k there start stop step
-no_better_move a valid t k there found rounded start stop step was now e is moved n other q m p =
-    let new : IsTried a t k found = subst (λ j. IsTried a t j found) e now in
-    let same : found.rounded.offsets.items ≡ other = ap (λ (r : Rounded). r.offsets.items) is ∙ one_move k there.rounded.offsets.items start stop step rounded.offsets.items other moved m in
-    no_better_plan a valid own_pair t k there.rounded.offsets.items other q found.timing there.timing found.score there.score p (subst (λ xs. IsPlanOf a t k xs found.timing) same new.plan)
-    was.plan new.score_is was.score_is n
-
-pub own_none : {A : Type 0} (o : Option A) → IfNone o (o ≡ None)
-own_none None = refl
-own_none (Some x) = tt
-
-pub if_none : {A : Type 0} (P : Type 0) (o : Option A) → P → IfNone o P
-if_none P None h = h
-if_none P (Some x) h = tt
-
-pub none_both : {A : Type 0} (P Q R : Type 0) (o : Option A) → (P → Q → R) → IfNone o P → IfNone o Q → IfNone o R
-none_both P Q R None f h g = f h g
-none_both P Q R (Some x) f h g = tt
-
--- where nothing comes only of nothing
-pub none_chain : {A : Type 0} (P : Type 0) (new old : Option A) → IfNone new (old ≡ None) → IfNone old P → IfNone new P
-none_chain P None old h g = none_of P old g h
-none_chain P (Some x) old h g = tt
-
-module _ (a : Street) (t : TimingRecord) (k : ℕ) (x : Tried) (reach : Reach) (step : ℕ) where
-  pub none_at_first : NoneBetterAt a t k x reach step 1
-  none_at_first start l m = absurd (omega arith)
-
-  pub one_place_more : (n stop count : ℕ) → stop ≡ stop_of reach n count → count ≡ length x.rounded.offsets.items → NoneBetterAt a t k x reach step n → IsNoBetter a t k x n stop step
-      → NoneBetterAt a t k x reach step (n + 1)
-  one_place_more n stop count e f h g start l m = elim (cases_lt start n) [
-    | inl less ↦ h start l less
-    | inr same ↦ let at : n ≡ start = omega arith in
-        subst (λ s. IsNoBetter a t k x s (stop_of reach s (length x.rounded.offsets.items)) step) at
-        (subst (λ s. IsNoBetter a t k x n s step) (e ∙ ap (stop_of reach n) f) g)
-  ]
-
-  pub to_the_end : (n count : ℕ) → count ≤ n → NoneBetterAt a t k x reach step n → NoneBetterAt a t k x reach step count
-  to_the_end n count l h start m less = h start m (omega arith)
-
+-- of what a call that may fail answers
 pub ok_map : {A E : Type 0} (P Q : A → Type 0) (r : Result A E) → ((x : A) → P x → Q x) → IfOk r P → IfOk r Q
 ok_map P Q (Ok x) f h = f x h
 ok_map P Q (Err e) f h = tt
 
-pub ok_both : {A E : Type 0} (P Q R : A → Type 0) (r : Result A E) → ((x : A) → P x → Q x → R x) → IfOk r P → IfOk r Q → IfOk r R
-ok_both P Q R (Ok x) f h g = f x h g
-ok_both P Q R (Err e) f h g = tt
+-- the moves by a step from the places before one
+abbrev pub before : Reach → ℕ → ℕ → ℕ → List Move
+before reach step n start = map (λ from. record { start = from; stop = stop_of reach from n; step = step }) (range_with_len 1 (start - 1))
 
--- where four in a row come of nothing
-pub four_none : {A : Type 0} (P Q R S T : Type 0) (one two three four : Option A) → (P → Q → R → S → T) → IfNone one P → IfNone two (one ≡ None) → IfNone two Q → IfNone three (two ≡ None)
-    → IfNone three R
-    → IfNone four (three ≡ None) → IfNone four S → IfNone four T
-four_none P Q R S T one two three None f p n q m r l s =
-    let e = l in
-    let d = none_of (two ≡ None) three m e in
-    let b = none_of (one ≡ None) two n d in
-    f (none_of P one p b) (none_of Q two q d) (none_of R three r e) s
-four_none P Q R S T one two three (Some x) f p n q m r l s = tt
+module _ (a : Street) (t : TimingRecord) (there : Tried) where
+  abbrev Has : (Score → Type 0) → Move → Type 0
+  Has = HasPlan a t there
+
+  abbrev Beats : Score → Move → Type 0
+  Beats s = Has (λ r. IsBetter s r)
+
+  abbrev Bears : Score → Move → Type 0
+  Bears s = Has (λ r. ¬ IsBetter r s)
+
+  such : (P Q : Score → Type 0) → ((s : Score) → P s → Q s) → (ms : List Move) → All (Has P) ms → All (Has Q) ms
+  such P Q f ms h = each_of (Has P) (Has Q) ms (λ m x. (x.0, (x.1.0, f x.0.score x.1.1))) h
+
+  -- ---- one move more
+  module _ (m : Move) (found : Tried) (after : IsAfter a t there m found) where
+    pub none_stays : ¬ IsBetter found.score there.score → IsMadeWith a t there (m ∷ []) None None
+    none_stays n ms h = All-push (Bears there.score) ms m h (found, (after, n))
+
+    -- it is better than all before it
+    last_best : (ms : List Move) → All (Beats found.score) ms → IsBetter found.score there.score → IsMade a t there (ms ++ m ∷ []) (Some found)
+    last_best ms h b = (
+      record { before = ms; move = m; after = []; moves_are = refl; plan = after; earlier = h; later = none_in (Bears found.score) },
+      b,
+    )
+
+    pub first_better : IsBetter found.score there.score → IsMadeWith a t there (m ∷ []) None (Some found)
+    first_better b ms h = last_best ms (such (λ s. ¬ IsBetter s there.score) (λ s. IsBetter found.score s) (λ s n. better_over found.score s there.score b n) ms h) b
+
+    pub better_takes : (best : Tried) → IsBetter found.score best.score → IsMadeWith a t there (m ∷ []) (Some best) (Some found)
+    better_takes best b ms (f, c) =
+        let early = such (λ s. IsBetter best.score s) (λ s. IsBetter found.score s) (λ s g. better_trans found.score best.score s b g) f.before f.earlier in
+        let late = such (λ s. ¬ IsBetter s best.score) (λ s. IsBetter found.score s) (λ s n. better_over found.score s best.score b n) f.after f.later in
+        let one : All (Beats found.score) (f.move ∷ []) = All-push (Beats found.score) [] f.move (none_in (Beats found.score)) (best, (f.plan, b)) in
+        let here : All (Beats found.score) (f.move ∷ f.after) = All-append (Beats found.score) (f.move ∷ []) f.after one late in
+        let all = All-append (Beats found.score) f.before (f.move ∷ f.after) early here in
+        last_best ms (subst (λ l. All (Beats found.score) l) (sym f.moves_are) all) (better_trans found.score best.score there.score b c)
+
+    pub best_stays : (best : Tried) → ¬ IsBetter found.score best.score → IsMadeWith a t there (m ∷ []) (Some best) (Some best)
+    best_stays best n ms (f, c) = (
+      record {
+        before = f.before;
+        move = f.move;
+        after = f.after ++ m ∷ [];
+        moves_are = ap (λ l. l ++ m ∷ []) f.moves_are ∙ append_assoc f.before (f.move ∷ f.after) (m ∷ []);
+        plan = f.plan;
+        earlier = f.earlier;
+        later = All-push (Bears best.score) f.after m f.later (found, (after, n));
+      },
+      c,
+    )
+
+  -- ---- more of them, one list after another
+  pub no_more : (best : Option Tried) → IsMadeWith a t there [] best best
+  no_more best ms h = subst (λ l. IsMade a t there l best) (sym (append-nil ms)) h
+
+  pub then : (first second : List Move) (x y z : Option Tried) → IsMadeWith a t there first x y → IsMadeWith a t there second y z → IsMadeWith a t there (first ++ second) x z
+  then first second x y z h g ms made = subst (λ l. IsMade a t there l z) (append_assoc ms first second) (g (ms ++ first) (h ms made))
+
+  pub from_none : (all : List Move) (best : Option Tried) → IsMadeWith a t there all None best → IsMade a t there all best
+  from_none all best h = h [] (none_in (Bears there.score))
+
+  pub one_place_more : (reach : Reach) (step n start stop : ℕ) (x y z : Option Tried) → 1 ≤ start → stop ≡ stop_of reach start n → IsMadeWith a t there (before reach step n start) x y
+      → IsMadeWith a t there (record { start = start; stop = stop; step = step } ∷ []) y z → IsMadeWith a t there (before reach step n (start + 1)) x z
+  one_place_more reach step n start stop x y z some e h g =
+      let move : ℕ → Move = λ from. record { start = from; stop = stop_of reach from n; step = step } in
+      let more = map-range_with_len_more move 1 (start - 1) start (omega (arith, some)) in
+      let long : start - 1 + 1 ≡ start + 1 - 1 = omega (arith, some) in
+      let list : before reach step n start ++ move start ∷ [] ≡ before reach step n (start + 1) = sym more ∙ ap (λ l. map move (range_with_len 1 l)) long in
+      subst (λ l. IsMadeWith a t there l x z) list
+      (then (before reach step n start) (move start ∷ []) x y z h (subst (λ s. IsMadeWith a t there (record { start = start; stop = s; step = step } ∷ []) y z) e g))
+
+  pub to_the_end : (reach : Reach) (step n start : ℕ) (x z : Option Tried) → start - 1 ≡ n - 1 → IsMadeWith a t there (before reach step n start) x z → IsMadeWith a t there (moves_by reach step n) x z
+  to_the_end reach step n start x z e h =
+      subst (λ l. IsMadeWith a t there (map (λ from. record { start = from; stop = stop_of reach from n; step = step }) (range_with_len 1 l)) x z) e h
+
+  -- ---- the plan of a move
+  pub after_of : {E : Type 0} (m : Move) (rounded : Rounded) (r : Result Tried E) → rounded.seconds ≡ there.rounded.seconds
+      → IsMoved there.rounded.seconds there.rounded.offsets.items m rounded.offsets.items → IfOk r (λ x. IsTried a t rounded.seconds x) → IfOk r (λ x. x.rounded ≡ rounded)
+      → IfOk r (λ x. IsAfter a t there m x)
+  after_of m rounded (Ok x) e moved h g = record {
+    moved = subst (λ (q : Rounded). IsMoved there.rounded.seconds there.rounded.offsets.items m q.offsets.items) (sym g) moved;
+    tried = subst (λ j. IsTried a t j x) e h;
+  }
+  after_of m rounded (Err f) e moved h g = tt
+
+  -- ---- no move is better
+  pub none_better : IsValid a → IsTried a t there.rounded.seconds there → IsMade a t there (moves there.rounded.seconds (length there.rounded.offsets.items)) None
+      → NoMoveIsBetter a t there.rounded.seconds there
+  none_better valid was h other q (m, (is, moved)) p =
+      let (x, (after, n)) = All-contains (Bears there.score) (moves there.rounded.seconds (length there.rounded.offsets.items)) m h is in
+      let same : x.rounded.offsets.items ≡ other = one_moved there.rounded.seconds there.rounded.offsets.items m x.rounded.offsets.items other after.moved moved in
+      no_better_plan a valid own_pair t there.rounded.seconds there.rounded.offsets.items other q x.timing there.timing x.score there.score p
+      (subst (λ l. IsPlanOf a t there.rounded.seconds l x.timing) same after.tried.plan) was.plan after.tried.score_is was.score_is n

@@ -1,5 +1,5 @@
 -- The first offset is 0: so of those that are nearest to a timing's, and after every move.
-use Rattle.std.proofs.Common.{◌≡◌, ℕ, zero, suc, pos, ◌-ℤ◌, ◌+◌, ◌-◌, ◌*◌, ◌%◌, ◌<◌, ◌≤◌, nat_le, Bool, true, false, All, List, length, slice_index, ◌∙◌, ap, refl, arith, mul-pos}
+use Rattle.std.proofs.Common.{◌≡◌, ℕ, zero, suc, pos, ◌-ℤ◌, ◌+◌, ◌-◌, ◌*◌, ◌%◌, ◌<◌, ◌≤◌, nat_le, Bool, true, false, All, List, slice_index, ◌∙◌, ap, refl, arith, mul-pos}
 use Rattle.std.specs.Prelude.{◌&&◌, nat_lt, if◌then◌else◌}
 use Rattle.std.proofs.Math.Nat.{zero-mod}
 use Rattle.std.proofs.lemmas.Bool.{lt-leb}
@@ -11,7 +11,8 @@ use Rattle.progression.proofs.Remainders.{mod_unique}
 use Rattle.artery_model.specs.Valid.{IsValid}
 use Rattle.second_plan.specs.Nearest.{IsNearest, AnyNumber}
 use Rattle.second_plan.specs.Seconds.{red_after, AreOffsets}
-use Rattle.whole_offsets.specs.Moves.{moved, IsMoved}
+use Rattle.whole_offsets.specs.Moves.{IsMoved}
+use Rattle.whole_offsets.specs.declared.moves.Move.{Move}
 use Rattle.whole_offsets.specs.Offsets.{AreWithin}
 
 -- nothing is nearest to nothing
@@ -46,13 +47,14 @@ stays : (before : Bool) (stop moves there : ℕ) → before ≡ false → (if be
 stays true stop moves there e = absurd cc
 stays false stop moves there e = refl
 
-pub moved_within : (a : Street) (k : ℕ) (offsets : List ℕ) (start stop step : ℕ) (others : List ℕ) → IsValid a → AreWithin a k offsets → 1 ≤ start → IsMoved k offsets start stop step others
+pub moved_within : (a : Street) (k : ℕ) (offsets : List ℕ) (m : Move) (others : List ℕ) → IsValid a → AreWithin a k offsets → 1 ≤ m.start → IsMoved k offsets m others
     → All (λ n. n < k) others → AreWithin a k others
-moved_within a k offsets start stop step others valid h late m below =
+moved_within a k offsets m others valid h late moves below =
     let few = valid.few in
     let long = h.each_has in
     record {
-      each_has = m.as_many ∙ h.each_has;
+      each_has = moves.as_many ∙ h.each_has;
       below = below;
-      first = m.each 0 (omega (arith, few, long)) ∙ stays (nat_le start 0) stop ((slice_index offsets 0 + step) % k) (slice_index offsets 0) (lt-leb start 0 (omega (arith, late))) ∙ h.first;
+      first = moves.each 0 (omega (arith, few, long)) ∙ stays (nat_le m.start 0) m.stop ((slice_index offsets 0 + m.step) % k) (slice_index offsets 0) (lt-leb m.start 0 (omega (arith, late)))
+          ∙ h.first;
     }

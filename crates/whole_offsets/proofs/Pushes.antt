@@ -3,13 +3,12 @@ use Rattle.std.proofs.Common.{◌≡◌, ℕ, ◌+◌, ◌<◌, List, [], ◌∷
 use Rattle.std.specs.Prelude.{slice_index}
 use Rattle.std.proofs.lemmas.Bool.{cases_lt}
 use Rattle.std.proofs.lemmas.List.{get_or_append_left, get_or_push, length_push}
-use Rattle.progression.specs.Street.{Street, count}
+use Rattle.progression.specs.Street.{Street}
 use Rattle.progression.specs.declared.parts.Dir.{Dir}
-use Rattle.free_band.specs.Cells.{run_of}
-use Rattle.free_band.specs.declared.way.FreeBand.{FreeBand}
 use Rattle.free_runs.specs.Street.{AreLimits}
-use Rattle.whole_offsets.specs.Lines.{place_of, AreRunsOf, AreLeast}
+use Rattle.whole_offsets.specs.Lines.{AreLeast}
 use Rattle.whole_offsets.specs.Moves.{moved}
+use Rattle.whole_offsets.specs.declared.moves.Move.{Move}
 
 pub push_more : (P : ℕ → ℕ → Type 0) (xs : List ℕ) (n v : ℕ) → length xs ≡ n → ((i : ℕ) → i < n → P i (slice_index xs i)) → P n v → (i : ℕ) → i < n + 1 → P i (slice_index (xs ++ v ∷ []) i)
 push_more P xs n v long each here i l = elim (cases_lt i n) [
@@ -24,7 +23,7 @@ least_more a grid d runs n v most h e = record {
 }
 
 -- the first n offsets after a move
-pub record AreMoved (k : ℕ) (offsets : List ℕ) (start stop step : ℕ) (others : List ℕ) (n : ℕ) : Type 0 where
+pub record AreMoved (k : ℕ) (offsets : List ℕ) (m : Move) (others : List ℕ) (n : ℕ) : Type 0 where
   pub long : length others ≡ n
-  pub each : (i : ℕ) → i < n → slice_index others i ≡ moved k offsets start stop step i
+  pub each : (i : ℕ) → i < n → slice_index others i ≡ moved k offsets m i
   pub below : (i : ℕ) → i < n → slice_index others i < k

@@ -1,8 +1,10 @@
 -- The order of scores.
-use Rattle.std.proofs.Common.{◌≡◌, ℕ, ◌<◌, sym, ◌∙◌, subst, arith, inl, inr}
+use Rattle.std.proofs.Common.{◌≡◌, ℕ, pos, ◌*ℤ◌, ◌<◌, sym, ◌∙◌, subst, arith, inl, inr}
 use Rattle.std.specs.Prelude.{◌⊎◌}
+use Rattle.std.proofs.lemmas.Bool.{cases_order}
+use Rattle.std.proofs.lemmas.Int.{by_lt_z}
 use Rattle.rational_theory.specs.Rational.{ℚ, ◌<ℚ◌}
-use Rattle.rational_theory.proofs.Order.{<ℚ_trans, <ℚ_not-≤ℚ, ≤ℚ_refl}
+use Rattle.rational_theory.proofs.Order.{<ℚ_trans, <ℚ_not-≤ℚ, ≤ℚ_refl, ≤ℚ_antisymm}
 use Rattle.whole_offsets.specs.Score.{IsBetter}
 use Rattle.whole_offsets.specs.declared.score.Score.{Score}
 
@@ -42,6 +44,44 @@ better_irrefl x h = at_irrefl x.lineless x.misses x.weighted h
 -- what is no better than one isn't better than a better one
 pub no_better_on : (x y z : Score) → ¬ IsBetter x y → IsBetter z y → ¬ IsBetter x z
 no_better_on x y z h g w = h (better_trans x z y w g)
+
+-- ---- of two scores one is better, or both are the same
+ways_of : (x y : ℚ) → (x <ℚ y) ⊎ ((x ≡ y) ⊎ (y <ℚ x))
+ways_of x y = by_lt_z {P = (x <ℚ y) ⊎ ((x ≡ y) ⊎ (y <ℚ x))} (x.num *ℤ pos y.den) (y.num *ℤ pos x.den) (λ h. inl (record { cross = h }))
+    (λ h. by_lt_z {P = (x <ℚ y) ⊎ ((x ≡ y) ⊎ (y <ℚ x))} (y.num *ℤ pos x.den) (x.num *ℤ pos y.den) (λ g. inr (inr (record { cross = g })))
+    (λ g. inr (inl (≤ℚ_antisymm x y (record { cross = g }) (record { cross = h })))))
+
+ways_of_bands : (m w n v : ℚ) → IsBetterBands m w n v ⊎ (((m ≡ n) × (w ≡ v)) ⊎ IsBetterBands n v m w)
+ways_of_bands m w n v = elim (ways_of m n) [
+  | inl h ↦ inl (inl h)
+  | inr h ↦ elim h [
+    | inl e ↦ elim (ways_of v w) [ inl g ↦ inl (inr (e, g)) | inr g ↦ elim g [ inl f ↦ inr (inl (e, sym f)) | inr l ↦ inr (inr (inr (sym e, l))) ] ]
+    | inr g ↦ inr (inr (inl g))
+  ]
+]
+
+abbrev IsOneWay : ℕ → ℚ → ℚ → ℕ → ℚ → ℚ → Type 0
+IsOneWay l m w k n v = IsBetterAt l m w k n v ⊎ (((l ≡ k) × (m ≡ n) × (w ≡ v)) ⊎ IsBetterAt k n v l m w)
+
+-- what is better than one that another isn't better than is better than that
+over_of : (l : ℕ) (m w : ℚ) (k : ℕ) (n v : ℚ) (j : ℕ) (o u : ℚ) → IsOneWay l m w k n v → IsBetterAt l m w j o u → (IsBetterAt k n v j o u → ⊥) → IsBetterAt l m w k n v
+over_of l m w k n v j o u (inl h) b f = h
+over_of l m w k n v j o u (inr (inl e)) b f =
+    absurd (f (subst (λ i. IsBetterAt i n v j o u) e.0 (subst (λ i. IsBetterAt l i v j o u) e.1 (subst (λ i. IsBetterAt l m i j o u) e.2 b))))
+over_of l m w k n v j o u (inr (inr g)) b f = absurd (f (at_trans k n v l m w j o u g b))
+
+ways_at : (l : ℕ) (m w : ℚ) (k : ℕ) (n v : ℚ) → IsOneWay l m w k n v
+ways_at l m w k n v = elim (cases_order l k) [
+  | inl e ↦ elim (ways_of_bands m w n v) [
+    | inl h ↦ inl (inr (e, h))
+    | inr h ↦ elim h [ inl f ↦ inr (inl (e, f.0, f.1)) | inr g ↦ inr (inr (inr (sym e, g))) ]
+  ]
+  | inr h ↦ elim h [ inl g ↦ inl (inl g) | inr g ↦ inr (inr (inl g)) ]
+]
+
+pub better_over : (x y z : Score) → IsBetter x z → ¬ IsBetter y z → IsBetter x y
+better_over x y z b n = over_of x.lineless x.misses x.weighted y.lineless y.misses y.weighted z.lineless z.misses z.weighted
+    (ways_at x.lineless x.misses x.weighted y.lineless y.misses y.weighted) b n
 
 -- ---- the test
 not_same : (l : ℕ) (m w n v : ℚ) → (m ≡ n → ⊥) → IsBetterAt l m w l n v → m <ℚ n

@@ -21,9 +21,9 @@ use Rattle.second_plan.proofs.Fine.{reds_small, map-map_pos}
 use Rattle.second_plan.proofs.Rules.{unit_least, plan_base}
 use Rattle.whole_offsets.specs.Scale.{limits_pace, whole_grid, multiple, free_large, large_run, IsScale}
 use Rattle.whole_offsets.specs.Offsets.{HasRunsOf, AreWithin}
-use Rattle.whole_offsets.specs.Lines.{HasRuns, IsLineOf}
+use Rattle.whole_offsets.specs.Lines.{HasRuns, IsDirectionBand}
 use Rattle.whole_offsets.specs.Frame.{frame, IsMeasuredFor, or_nothing, lacking}
-use Rattle.whole_offsets.specs.declared.lines.Line.{Line}
+use Rattle.whole_offsets.specs.declared.lines.DirectionBand.{DirectionBand}
 use Rattle.whole_offsets.proofs.Sizes.{IsHeld, pace_held, AreSmall, small_of}
 use Rattle.whole_offsets.proofs.Runs.{has_runs}
 use Rattle.whole_offsets.proofs.Rivals.{pairs_kept}
@@ -93,7 +93,7 @@ frame_is t offsets grid unit patterns reds run_out run_in e f g h = λ i. record
 
 -- ---- a plan with free runs
 module _ (a : Street) (valid : IsValid a) (own : OwnPair) (t : TimingRecord) (k : ℕ) (offsets : List ℕ) (grid unit : ℕ) (s : IsScale a t k grid unit) (free : limits_pace a ≡ false)
-    (out back : Line) (bands : Bands) (o : IsLineOf a (frame grid unit offsets t) Outbound out) (b : IsLineOf a (frame grid unit offsets t) Inbound back)
+    (out back : DirectionBand) (bands : Bands) (o : IsDirectionBand a (frame grid unit offsets t) Outbound out) (b : IsDirectionBand a (frame grid unit offsets t) Inbound back)
     (cut : IsCut a (record { outbound = out.pair.band; inbound = back.pair.band }) bands) (less_out : bands.outbound ≤ out.pair.band) (less_in : bands.inbound ≤ back.pair.band) where
   abbrev f : TimingRecord
   f = frame grid unit offsets t

@@ -1,25 +1,15 @@
 -- The signals' times of a plan, and a plan that was measured.
-use Rattle.std.specs.Prelude.{ℕ, ◌*◌, List, map, pos, Option, None, Some}
+use Rattle.std.specs.Prelude.{ℕ, List, Option, None, Some}
 use Rattle.progression.specs.Street.{Street}
 use Rattle.progression.specs.TimingRecord.{TimingRecord}
 use Rattle.band_measure.specs.declared.pair.Widest.{Widest}
+use Rattle.second_plan.specs.Grid.{on_grid}
 use Rattle.whole_offsets.specs.Offsets.{IsPlanOf}
 use Rattle.whole_offsets.specs.Score.{AreWithoutLine}
 
--- the timing on another grid with other offsets; its runs are what they were, its firsts and bands 0
+-- the timing on another grid with other offsets; its runs are what they were
 abbrev pub frame : ℕ → ℕ → List ℕ → TimingRecord → TimingRecord
-frame grid unit offsets t = record {
-  grid = grid;
-  unit = unit;
-  patterns = t.patterns;
-  reds = map (λ offset. pos (offset * grid)) offsets;
-  run_out = t.run_out;
-  run_in = t.run_in;
-  first_out = pos 0;
-  first_in = pos 0;
-  band_out = 0;
-  band_in = 0;
-}
+frame grid unit offsets t = on_grid grid unit offsets t.run_out t.run_in t
 
 -- the plan of these offsets, and how many directions it has no line in
 pub record IsMeasuredFor (a : Street) (t : TimingRecord) (k : ℕ) (offsets : List ℕ) (p : TimingRecord) (n : ℕ) : Type 0 where

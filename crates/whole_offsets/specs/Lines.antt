@@ -9,7 +9,7 @@ use Rattle.free_band.specs.Cells.{run_of}
 use Rattle.free_band.specs.declared.way.FreeBand.{FreeBand}
 use Rattle.free_runs.specs.Free.{with_runs, KeepsSpeeds, NoneFree}
 use Rattle.free_runs.specs.Street.{AreLimits}
-use Rattle.whole_offsets.specs.declared.lines.Line.{Line}
+use Rattle.whole_offsets.specs.declared.lines.DirectionBand.{DirectionBand}
 
 -- some run of each link is within the limits of speed
 pub record HasRuns (a : Street) (grid : ℕ) : Type 0 where
@@ -48,9 +48,9 @@ pub record LacksLine (a : Street) (t : TimingRecord) (d : Dir) (band : ℕ) : Ty
   pub none : NoneFree a t d
   pub nothing : band ≡ 0
 
-pub record IsLineOf (a : Street) (t : TimingRecord) (d : Dir) (l : Line) : Type 0 where
-  pub long : length l.runs.items + 1 ≡ count a
-  pub kept : AreKept a t d l.runs.items
-  pub first_below : l.pair.first < cycle a t
-  pub band_below : l.pair.band < cycle a t
-  pub line : (HasLine a t d l.runs.items l.pair.first l.pair.band × (l.lineless ≡ 0)) ⊎ (LacksLine a t d l.pair.band × (l.lineless ≡ 1))
+pub record IsDirectionBand (a : Street) (t : TimingRecord) (d : Dir) (b : DirectionBand) : Type 0 where
+  pub long : length b.runs.items + 1 ≡ count a
+  pub kept : AreKept a t d b.runs.items
+  pub first_below : b.pair.first < cycle a t
+  pub band_below : b.pair.band < cycle a t
+  pub line : (HasLine a t d b.runs.items b.pair.first b.pair.band × (b.lineless ≡ 0)) ⊎ (LacksLine a t d b.pair.band × (b.lineless ≡ 1))

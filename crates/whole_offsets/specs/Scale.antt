@@ -11,7 +11,7 @@ use Rattle.progression.specs.declared.parts.Link.{Link}
 use Rattle.progression.specs.declared.parts.Dir.{Dir}
 use Rattle.progression.specs.declared.parts.Dir.TheVariants.{Outbound, Inbound}
 use Rattle.band_measure.specs.Cut.{whole_part}
-use Rattle.second_plan.specs.Grid.{fineness, too_fine}
+use Rattle.second_plan.specs.Grid.{plan_grid, plan_unit, too_fine}
 
 -- Some link has limits of the change of pace. They tie neighbouring runs, so that there runs stay those of the timing.
 abbrev pub limits_pace : Street → Bool
@@ -45,12 +45,12 @@ grown a d m (suc n) = let before = grown a d m n in if is_large (a.head.parts * 
 abbrev pub multiple : Street → ℕ
 multiple a = grown a Inbound (grown a Outbound least_multiple (count a - 1)) (count a - 1)
 
--- ---- the ticks in a second, in a part
+-- ---- the ticks in a second and in a part of the cycle; where runs are the timing's on its grid, made finer
 abbrev pub whole_grid : Street → TimingRecord → ℕ
-whole_grid a t = if limits_pace a then t.grid * fineness a else a.head.parts * multiple a
+whole_grid a t = if limits_pace a then plan_grid a t else a.head.parts * multiple a
 
 abbrev pub whole_unit : Street → TimingRecord → ℕ → ℕ
-whole_unit a t k = if limits_pace a then 2 * k * t.grid else k * multiple a
+whole_unit a t k = if limits_pace a then plan_unit t k else k * multiple a
 
 -- ---- numbers that no timing holds
 abbrev pub large : ℕ → Option ℕ

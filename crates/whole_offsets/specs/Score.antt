@@ -14,7 +14,8 @@ use Rattle.whole_offsets.specs.declared.score.Score.{Score}
 abbrev pub IsLack : Street → TimingRecord → Dir → ℕ → Type 0
 IsLack a p d n = (IsGreenWay a p d × (n ≡ 0)) ⊎ ((¬ IsGreenWay a p d) × (n ≡ 1))
 
--- how many directions have no line
+-- In how many directions the plan's band isn't green all the way. Of the plan of given offsets these are the directions without a line: where
+-- there is one, its band is that of a line, cut.
 pub record AreWithoutLine (a : Street) (p : TimingRecord) (n : ℕ) : Type 0 where
   pub out : ℕ
   pub back : ℕ
@@ -43,7 +44,7 @@ pub record IsSmall (a : Street) (p : TimingRecord) : Type 0 where
   pub band_out : p.band_out < 2 ^ 92
   pub band_in : p.band_in < 2 ^ 92
 
--- fewer directions without a line, then misses by less, then the greater weighted band
+-- fewer directions that aren't green, then misses by less, then the greater weighted band
 abbrev pub IsBetter : Score → Score → Type 0
 IsBetter one other = (one.lineless < other.lineless) ⊎ ((one.lineless ≡ other.lineless)
     × ((one.misses <ℚ other.misses) ⊎ ((one.misses ≡ other.misses) × (other.weighted <ℚ one.weighted))))

@@ -17,7 +17,8 @@ use Rattle.whole_offsets.specs.Offsets.{AreWithin, IsPlanOf}
 use Rattle.whole_offsets.specs.Moves.{IsMove}
 use Rattle.whole_offsets.specs.Score.{IsBetterPlan}
 
--- The plan of the offsets in a cycle of k seconds. The plan of no move from them is better, nor is that of the offsets nearest to t's.
+-- The plan of the offsets in a cycle of k seconds. The plan of no move from them is better, nor is that of the offsets nearest to t's. Each of these
+-- offsets has a plan (`try_offsets` makes it, but for want of memory), and all plans of the same offsets are as good.
 pub record IsSteady (a : Street) (t : TimingRecord) (k : ℕ) (offsets : List ℕ) (p : TimingRecord) : Type 0 where
   pub fine : too_large a t k ≡ None
   pub within : AreWithin a k offsets

@@ -1,13 +1,13 @@
--- The plan of offsets that are tried, and that a move's is no better.
-use Rattle.std.specs.Prelude.{◌≡◌, ℕ, ◌+◌, ◌<◌, ◌≤◌, List, length}
+-- The plan of offsets that are tried, and which of the moves from them is made.
+use Rattle.std.specs.Prelude.{◌≡◌, ℕ, List, ◌∷◌, ◌++◌, All, Option, Some, None}
 use Rattle.progression.specs.Street.{Street}
 use Rattle.progression.specs.TimingRecord.{TimingRecord}
 use Rattle.whole_offsets.specs.Offsets.{AreWithin, IsPlanOf}
 use Rattle.whole_offsets.specs.Moves.{IsMoved, IsMove}
-use Rattle.whole_offsets.specs.Score.{IsScore, IsSmall, IsBetterPlan}
+use Rattle.whole_offsets.specs.Score.{IsScore, IsSmall, IsBetter, IsBetterPlan}
+use Rattle.whole_offsets.specs.declared.moves.Move.{Move}
 use Rattle.whole_offsets.specs.declared.plan.Tried.{Tried}
-use Rattle.whole_offsets.specs.declared.search.Reach.{Reach}
-use Rattle.whole_offsets.specs.declared.search.Reach.TheVariants.{One, On}
+use Rattle.whole_offsets.specs.declared.score.Score.{Score}
 
 pub record IsTried (a : Street) (t : TimingRecord) (k : ℕ) (x : Tried) : Type 0 where
   pub seconds_are : x.rounded.seconds ≡ k
@@ -16,18 +16,33 @@ pub record IsTried (a : Street) (t : TimingRecord) (k : ℕ) (x : Tried) : Type 
   pub score_is : IsScore a x.timing x.score
   pub small : IsSmall a x.timing
 
--- the plan of this move is no better
-abbrev pub IsNoBetter : Street → TimingRecord → ℕ → Tried → ℕ → ℕ → ℕ → Type 0
-IsNoBetter a t k x start stop step = (other : List ℕ) (q : TimingRecord) → IsMoved k x.rounded.offsets.items start stop step other → IsPlanOf a t k other q → ¬ IsBetterPlan a q x.timing
+-- the plan of the offsets after a move
+pub record IsAfter (a : Street) (t : TimingRecord) (there : Tried) (m : Move) (x : Tried) : Type 0 where
+  pub moved : IsMoved there.rounded.seconds there.rounded.offsets.items m x.rounded.offsets.items
+  pub tried : IsTried a t there.rounded.seconds x
 
--- how far a move from a place reaches
-abbrev pub stop_of : Reach → ℕ → ℕ → ℕ
-stop_of One place n = place + 1
-stop_of On place n = n
+-- the move has a plan, and its score is such
+abbrev pub HasPlan : Street → TimingRecord → Tried → (Score → Type 0) → Move → Type 0
+HasPlan a t there Such m = (x : Tried) × (IsAfter a t there m x × Such x.score)
 
--- so of each place but the first and before the n-th
-abbrev pub NoneBetterAt : Street → TimingRecord → ℕ → Tried → Reach → ℕ → ℕ → Type 0
-NoneBetterAt a t k x reach step n = (start : ℕ) → 1 ≤ start → start < n → IsNoBetter a t k x start (stop_of reach start (length x.rounded.offsets.items)) step
+-- The best of the moves, of equally good ones the first: its plan is better than those of the moves before it, and none after it has a better one.
+pub record IsFirstBest (a : Street) (t : TimingRecord) (there : Tried) (moves : List Move) (best : Tried) : Type 0 where
+  pub before : List Move
+  pub move : Move
+  pub after : List Move
+  pub moves_are : moves ≡ before ++ move ∷ after
+  pub plan : IsAfter a t there move best
+  pub earlier : All (HasPlan a t there (λ s. IsBetter best.score s)) before
+  pub later : All (HasPlan a t there (λ s. ¬ IsBetter s best.score)) after
+
+-- what is made of the moves: the best where it is better than what is there, and none where no move is
+abbrev pub IsMade : Street → TimingRecord → Tried → List Move → Option Tried → Type 0
+IsMade a t there moves None = All (HasPlan a t there (λ s. ¬ IsBetter s there.score)) moves
+IsMade a t there moves (Some best) = IsFirstBest a t there moves best × IsBetter best.score there.score
+
+-- what is made with some moves more
+abbrev pub IsMadeWith : Street → TimingRecord → Tried → List Move → Option Tried → Option Tried → Type 0
+IsMadeWith a t there more before after = (moves : List Move) → IsMade a t there moves before → IsMade a t there (moves ++ more) after
 
 -- no move's plan is better
 abbrev pub NoMoveIsBetter : Street → TimingRecord → ℕ → Tried → Type 0

@@ -1,29 +1,18 @@
-//! The timings that plans are made of: the signals' times, and the runs and lines found on them.
+//! The timings that plans are made of: the signals' times, and the runs and first lines found on them.
 
-ghost use Rattle.std.specs.Prelude.{◌≡◌, ◌+◌, ◌*◌, ◌<◌, ◌^◌, length, map, All, pos, IfOk};
+ghost use Rattle.std.specs.Prelude.{◌≡◌, ◌+◌, ◌<◌, ◌^◌, length, All, pos, IfOk};
 ghost use Rattle.progression.specs.Good.{IsBase};
 ghost use Rattle.band_measure.specs.Pairs.{with_pairs};
 ghost use Rattle.free_runs.specs.Free.{with_runs};
 ghost use Rattle.whole_offsets.specs.{Scale.{IsScale}, Offsets.{AreWithin}, Frame.{frame}};
 
-use crate::lines::Line;
+use crate::lines::DirectionBand;
 use artery_model::Artery;
 use band_measure::{Bands, BothPairs, GridScale, Widest, timing_with};
 use narrow_fraction::Memory;
-use second_plan::Rounded;
+use second_plan::{NO_PAIRS, Rounded, reds};
 use std::alloc::Global;
 use time_space::Timing;
-
-/// The starts of the reds, in ticks.
-fn reds(alloc: Global, offsets: &[u64], grid: u128) -> Result<Vec<u128>, Memory>
-    requires offsets { All (λ n. n < 3600) offsets.now }
-    requires grid { grid < 2 ^ 80 }
-    ensures { IfOk result (λ made. made.items ≡ map (λ offset. offset * grid) offsets.now) }
-{
-    let mut made = Vec::with_capacity(alloc, offsets.len())?;
-    made.extend(offsets.iter().map(|offset| u128::from(*offset) * grid))?;
-    Ok(made)
-}
 
 /// The signals' times of a plan: its grid and reds, with the timing's patterns, and its runs as they are.
 pub fn frame(
@@ -43,23 +32,34 @@ pub fn frame(
     let reds = reds(alloc, rounded.offsets.as_slice(), scale.grid)?;
     let run_out = Vec::from_slice(alloc, timing.run_out())?;
     let run_in = Vec::from_slice(alloc, timing.run_in())?;
-    let nothing = Widest { first: 0, band: 0 };
-    let pairs = BothPairs {
-        outbound: nothing,
-        inbound: nothing,
-    };
-    match timing_with(scale, patterns, reds, run_out, run_in, pairs) {
+    match timing_with(scale, patterns, reds, run_out, run_in, NO_PAIRS) {
         Some(made) => Ok(made),
         None => unreachable!(),
     }
 }
 
-/// The timing of these signals' times with the runs and the lines that were found, and with cut bands.
-pub fn with_lines(
+/// The first lines that were found, with cut bands.
+fn pairs_of(out: Widest, back: Widest, bands: Bands) -> BothPairs
+    ensures { result ≡ record { outbound = record { first = out.first; band = bands.outbound }; inbound = record { first = back.first; band = bands.inbound } } }
+{
+    BothPairs {
+        outbound: Widest {
+            first: out.first,
+            band: bands.outbound,
+        },
+        inbound: Widest {
+            first: back.first,
+            band: bands.inbound,
+        },
+    }
+}
+
+/// The timing of these signals' times with the runs and the first lines that were found, and with cut bands.
+pub fn with_found(
     alloc: Global,
     timing: &Timing,
-    out: Line,
-    back: Line,
+    out: DirectionBand,
+    back: DirectionBand,
     bands: Bands,
 ) -> Result<Timing, Memory>
     requires runs_out { All (λ n. n < 2 ^ 80) out.runs.items }
@@ -81,16 +81,7 @@ pub fn with_lines(
     };
     let patterns = Vec::from_slice(alloc, timing.patterns())?;
     let reds = Vec::from_slice(alloc, timing.reds())?;
-    let pairs = BothPairs {
-        outbound: Widest {
-            first: out.pair.first,
-            band: bands.outbound,
-        },
-        inbound: Widest {
-            first: back.pair.first,
-            band: bands.inbound,
-        },
-    };
+    let pairs = pairs_of(out.pair, back.pair, bands);
     match timing_with(scale, patterns, reds, out.runs, back.runs, pairs) {
         Some(made) => Ok(made),
         None => unreachable!(),

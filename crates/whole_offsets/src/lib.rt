@@ -7,13 +7,12 @@
 //! are whole ticks, and the first of its numbers that no timing holds. A good plan is the best with its grid, cycle, patterns and offsets.
 //!
 //! Plans are compared by `is_better` (`specs/Score.antt`), also those of different cycles: fewer directions without a line, then bands
-//! that miss the least widths by less, then the greater weighted band. The moves are those of `specs/Moves.antt`; of the better ones
-//! the best is made, and of equally good ones the first. Each makes the plan better, and there are finitely many numbers a plan of this
-//! grid and cycle can be judged by, so it ends (`proofs/Rank.antt`).
-#![tactic(auto, using(rational_theory::proofs::Compare::ne_false, rational_theory::proofs::Compare::eq_true, rational_theory::proofs::Compare::lt_true, rational_theory::proofs::Compare::lt_false, rational_theory::proofs::Compare::le_true, rational_theory::proofs::Compare::le_false))]
+//! that miss the least widths by less, then the greater weighted band. The moves are those of `specs/Moves.antt`, in their order; where any
+//! is better than what is there the best of them is made, and of equally good ones the first (`IsMade` of `specs/Tried.antt`). Each makes
+//! the plan better, and there are finitely many numbers a plan of this grid and cycle can be judged by, so it ends (`proofs/Rank.antt`).
+#![tactic(auto, using(rational_theory::proofs::Compare::ne_false, rational_theory::proofs::Compare::eq_true, rational_theory::proofs::Compare::lt_true, rational_theory::proofs::Compare::lt_false))]
 
 mod answer;
-mod fractions;
 mod frames;
 mod lines;
 mod moves;

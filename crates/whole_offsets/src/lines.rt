@@ -4,7 +4,7 @@ ghost use Rattle.std.specs.Prelude.{◌≡◌, ◌+◌, ◌-◌, ◌<◌, ◌≤
 ghost use Rattle.progression.specs.{Street.{count}, TimingRecord.{cycle}};
 ghost use Rattle.free_runs.specs.Free.{NoneFree, IsFree};
 ghost use Rattle.artery_model.specs.Bounds.{most_signals};
-ghost use Rattle.whole_offsets.specs.Lines.{HasRuns, IsLineOf, place_of, AreRunsOf, AreLeast};
+ghost use Rattle.whole_offsets.specs.Lines.{HasRuns, IsDirectionBand, place_of, AreRunsOf, AreLeast};
 
 use artery_model::Artery;
 use band_measure::Widest;
@@ -12,15 +12,16 @@ use free_band::FreeBand;
 use free_runs::{run_limits, widest_band};
 use narrow_fraction::Memory;
 use progression::Dir;
+use second_plan::NO_PAIR;
 use std::alloc::Global;
 use time_space::Timing;
 
-/// What is found in a direction.
+/// The widest band of a direction, with its runs.
 #[derive(Drop)]
-pub struct Line {
-    /// The first line and the widest band, both 0 where no line passes.
+pub struct DirectionBand {
+    /// The first line and the band's width, both 0 where no line passes.
     pub pair: Widest,
-    /// The runs, in the order of the links.
+    /// The runs, in the order of the links; where no line passes the least ones.
     pub runs: Vec<u128>,
     /// 1 where no line passes, and else 0.
     pub lineless: u32,
@@ -70,21 +71,21 @@ fn least_runs(
 }
 
 /// The band that was found.
-fn found_line(
+fn found_band(
     alloc: Global,
     artery: &Artery,
     timing: &Timing,
     dir: Dir,
     free: &FreeBand,
-) -> Result<Line, Memory>
+) -> Result<DirectionBand, Memory>
     requires free { IsFree artery.now timing.now dir free.now }
     requires first { free.now.first < cycle artery.now timing.now }
     requires band { free.now.band < cycle artery.now timing.now }
-    ensures { IfOk result (λ l. IsLineOf artery.now timing.now dir l) }
+    ensures { IfOk result (λ b. IsDirectionBand artery.now timing.now dir b) }
 {
     artery.known_valid();
     let runs = runs_of(alloc, artery, dir, free)?;
-    Ok(Line {
+    Ok(DirectionBand {
         pair: Widest {
             first: free.first,
             band: free.band,
@@ -95,30 +96,40 @@ fn found_line(
 }
 
 /// That no line passes.
-fn no_line(alloc: Global, artery: &Artery, timing: &Timing, dir: Dir) -> Result<Line, Memory>
+fn no_band(
+    alloc: Global,
+    artery: &Artery,
+    timing: &Timing,
+    dir: Dir,
+) -> Result<DirectionBand, Memory>
     requires runs { HasRuns artery.now timing.now.grid }
     requires none { NoneFree artery.now timing.now dir }
     requires some { 0 < cycle artery.now timing.now }
-    ensures { IfOk result (λ l. IsLineOf artery.now timing.now dir l) }
+    ensures { IfOk result (λ b. IsDirectionBand artery.now timing.now dir b) }
 {
     artery.known_valid();
     let runs = least_runs(alloc, artery, timing, dir)?;
-    Ok(Line {
-        pair: Widest { first: 0, band: 0 },
+    Ok(DirectionBand {
+        pair: NO_PAIR,
         runs,
         lineless: 1,
     })
 }
 
 /// The widest band of a direction on the offsets of a timing, with any runs within the limits of speed.
-pub fn free_line(alloc: Global, artery: &Artery, timing: &Timing, dir: Dir) -> Result<Line, Memory>
+pub fn direction_band(
+    alloc: Global,
+    artery: &Artery,
+    timing: &Timing,
+    dir: Dir,
+) -> Result<DirectionBand, Memory>
     requires shape { length timing.now.patterns ≡ count artery.now }
     requires runs { HasRuns artery.now timing.now.grid }
     requires some { 0 < cycle artery.now timing.now }
-    ensures { IfOk result (λ l. IsLineOf artery.now timing.now dir l) }
+    ensures { IfOk result (λ b. IsDirectionBand artery.now timing.now dir b) }
 {
     match widest_band(artery, timing, dir) {
-        Some(free) => found_line(alloc, artery, timing, dir, &free),
-        None => no_line(alloc, artery, timing, dir),
+        Some(free) => found_band(alloc, artery, timing, dir, &free),
+        None => no_band(alloc, artery, timing, dir),
     }
 }

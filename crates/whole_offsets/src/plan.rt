@@ -6,17 +6,15 @@ ghost use Rattle.second_plan.specs.{Grid.{too_fine}, Seconds.{IsWholeCycle}};
 ghost use Rattle.whole_offsets.specs.{Scale.{limits_pace, IsScale}, Offsets.{AreWithin}, Tried.{IsTried}};
 ghost use Rattle.whole_offsets.specs.Frame.{IsMeasuredFor, or_nothing, lacking};
 
-use crate::frames::{frame, with_lines};
-use crate::lines::free_line;
+use crate::frames::{frame, with_found};
+use crate::lines::direction_band;
 use crate::scale::limits_pace;
 use crate::score::{Score, judged};
 use artery_model::Artery;
-use band_measure::{
-    Bands, BothPairs, GridScale, Widest, cut, law_finer_pairs, law_own_pair, widest,
-};
+use band_measure::{Bands, GridScale, Widest, cut, law_finer_pairs, law_own_pair, widest};
 use narrow_fraction::Memory;
 use progression::Dir;
-use second_plan::{Rounded, timed};
+use second_plan::{NO_PAIR, NO_PAIRS, Rounded, timed};
 use std::alloc::Global;
 use time_space::Timing;
 
@@ -52,15 +50,15 @@ fn free_plan(
     artery.known_valid();
     law_own_pair();
     let frame = frame(alloc, artery, timing, scale, rounded)?;
-    let out = free_line(alloc, artery, &frame, Dir::Outbound)?;
-    let back = free_line(alloc, artery, &frame, Dir::Inbound)?;
+    let out = direction_band(alloc, artery, &frame, Dir::Outbound)?;
+    let back = direction_band(alloc, artery, &frame, Dir::Inbound)?;
     let wide = Bands {
         outbound: out.pair.band,
         inbound: back.pair.band,
     };
     let bands = cut(artery, wide);
     let lineless = out.lineless + back.lineless;
-    let timing = with_lines(alloc, &frame, out, back, bands)?;
+    let timing = with_found(alloc, &frame, out, back, bands)?;
     Ok(Measured { timing, lineless })
 }
 
@@ -70,7 +68,7 @@ fn or_nothing(found: Option<Widest>) -> Widest
 {
     match found {
         Some(pair) => pair,
-        None => Widest { first: 0, band: 0 },
+        None => NO_PAIR,
     }
 }
 
@@ -104,12 +102,7 @@ fn pace_plan(
     artery.known_valid();
     law_own_pair();
     law_finer_pairs();
-    let nothing = Widest { first: 0, band: 0 };
-    let none = BothPairs {
-        outbound: nothing,
-        inbound: nothing,
-    };
-    let frame = timed(alloc, artery, timing, rounded, none)?;
+    let frame = timed(alloc, artery, timing, rounded, NO_PAIRS)?;
     let found_out = widest(artery, &frame, Dir::Outbound);
     let found_in = widest(artery, &frame, Dir::Inbound);
     let (out, back) = (or_nothing(found_out), or_nothing(found_in));

@@ -6,9 +6,9 @@ ghost use Rattle.progression.specs.Street.{count};
 ghost use Rattle.whole_offsets.specs.Scale.{limits_pace, most_run, has_whole_run, growth, is_large, grown, multiple};
 ghost use Rattle.whole_offsets.specs.Scale.{large, large_run, free_large, too_large, IsScale};
 
-use crate::fractions::{denominator, numerator};
 use artery_model::Artery;
 use band_measure::GridScale;
+use free_runs::{denominator, numerator};
 use narrow_fraction::common_multiple;
 use progression::Dir;
 use second_plan::too_fine;

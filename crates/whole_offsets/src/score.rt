@@ -5,8 +5,8 @@ ghost use Rattle.rational_theory.specs.Rational.{◌+ℚ◌};
 ghost use Rattle.progression.specs.TimingRecord.{cycle};
 ghost use Rattle.whole_offsets.specs.Score.{missed, miss, AreWithoutLine, IsScore, IsSmall, IsBetter};
 
-use crate::fractions::{denominator, numerator};
 use artery_model::Artery;
+use free_runs::{denominator, numerator};
 use narrow_fraction::Frac;
 use progression::Dir;
 use time_space::{Timing, cycle, value};
@@ -14,7 +14,7 @@ use time_space::{Timing, cycle, value};
 /// What a plan is judged by, in this order.
 #[derive(Clone, Copy)]
 pub struct Score {
-    /// How many directions no line of the band crosses in green: 0 to 2.
+    /// In how many directions the band isn't green all the way, since no line passes: 0 to 2.
     pub lineless: u32,
     /// By how much the bands are narrower than they have to be, as a part of the cycle, in sum.
     pub misses: Frac,

@@ -1,12 +1,13 @@
 //! The moves while they make the plan better.
 
-ghost use Rattle.std.specs.Prelude.{◌≡◌, ◌⊎◌, ◌-◌, ◌*◌, ◌<◌, ◌≤◌, ℕ, length, IfOk, IfNone, IfSome, Some, None};
-ghost use Rattle.progression.specs.Good.{Good};
+ghost use Rattle.std.specs.Prelude.{◌≤◌, ◌∷◌, [], length, IfOk, None};
+ghost use Rattle.progression.specs.{Street.{Street}, TimingRecord.{TimingRecord}, Good.{Good}};
 ghost use Rattle.second_plan.specs.Seconds.{IsWholeCycle};
-ghost use Rattle.whole_offsets.specs.{Scale.{IsScale}, Moves.{IsStep}, Score.{IsBetter}};
-ghost use Rattle.whole_offsets.specs.Tried.{IsTried, IsNoBetter, stop_of, NoneBetterAt, NoMoveIsBetter};
+ghost use Rattle.whole_offsets.specs.{Scale.{IsScale}, Moves.{moves_by, moves_of, moves}, Score.{IsBetter}};
+ghost use Rattle.whole_offsets.specs.declared.moves.Move.{Move};
+ghost use Rattle.whole_offsets.specs.Tried.{IsTried, IsAfter, IsMade, IsMadeWith, NoMoveIsBetter};
 
-use crate::moves::{Move, moved};
+use crate::moves::{Move, Reach, moved, stop_of};
 use crate::plan::{Tried, try_offsets};
 use crate::score::beats;
 use artery_model::Artery;
@@ -15,15 +16,11 @@ use narrow_fraction::Memory;
 use std::alloc::Global;
 use time_space::Timing;
 
-/// The best plan that is known once one more is: that of a move that is held, or none while no move is better than what is there.
-fn better_of(there: &Tried, found: Tried, held: Option<Tried>) -> Option<Tried>
-    requires { IfSome held (λ h. IsBetter h.score there.now.score) }
-    ensures none { IfNone result (held ≡ None) }
-    ensures no_better { IfNone result (¬ IsBetter found.score there.now.score) }
-    ensures better { IfSome result (λ r. IsBetter r.score there.now.score) }
-    ensures one { IfSome result (λ r. (r ≡ found) ⊎ (held ≡ Some r)) }
+/// The best of the moves' plans once one more is found, or None while none is better than what is there.
+fn better_of(there: &Tried, found: Tried, best: Option<Tried>) -> Option<Tried>
+    ensures { (a : Street) (t : TimingRecord) (m : Move) → IsAfter a t there.now m found → IsMadeWith a t there.now (m ∷ []) best result }
 {
-    match held {
+    match best {
         None => {
             if beats(&found.score, &there.score) {
                 Some(found)
@@ -31,64 +28,61 @@ fn better_of(there: &Tried, found: Tried, held: Option<Tried>) -> Option<Tried>
                 None
             }
         }
-        Some(best) => {
-            if beats(&found.score, &best.score) {
+        Some(before) => {
+            if beats(&found.score, &before.score) {
                 Some(found)
             } else {
-                Some(best)
+                Some(before)
             }
         }
     }
 }
 
-/// The best plan that is known once a move is tried.
+/// The plan of the offsets after a move.
+fn plan_after(
+    alloc: Global,
+    artery: &Artery,
+    timing: &Timing,
+    scale: GridScale,
+    there: &Tried,
+    given: Move,
+) -> Result<Tried, Memory>
+    requires good { Good artery.now timing.now }
+    requires scale { IsScale artery.now timing.now there.now.rounded.seconds scale.grid scale.unit }
+    requires whole { IsWholeCycle artery.now there.now.rounded.seconds }
+    requires there { IsTried artery.now timing.now there.now.rounded.seconds there.now }
+    requires not_first { 1 ≤ given.start }
+    requires step { given.step ≤ 7200 }
+    ensures { IfOk result (λ x. IsAfter artery.now timing.now there.now given x) }
+{
+    artery.known_valid();
+    let rounded = moved(alloc, &there.rounded, given)?;
+    try_offsets(alloc, artery, timing, scale, rounded)
+}
+
+/// The best of the plans so far once a move is tried.
 fn try_move(
     alloc: Global,
     artery: &Artery,
     timing: &Timing,
     scale: GridScale,
     there: &Tried,
-    by: Move,
-    held: Option<Tried>,
+    given: Move,
+    best: Option<Tried>,
 ) -> Result<Option<Tried>, Memory>
     requires good { Good artery.now timing.now }
     requires scale { IsScale artery.now timing.now there.now.rounded.seconds scale.grid scale.unit }
     requires whole { IsWholeCycle artery.now there.now.rounded.seconds }
     requires there { IsTried artery.now timing.now there.now.rounded.seconds there.now }
-    requires not_first { 1 ≤ by.start }
-    requires step { by.step ≤ 7200 }
-    requires held_is { IfSome held (λ h. IsTried artery.now timing.now there.now.rounded.seconds h) }
-    requires held_better { IfSome held (λ h. IsBetter h.score there.now.score) }
-    ensures none { IfOk result (λ r. IfNone r (held ≡ None)) }
-    ensures no_better { IfOk result (λ r. IfNone r (IsNoBetter artery.now timing.now there.now.rounded.seconds there.now by.start by.stop by.step)) }
-    ensures better { IfOk result (λ r. IfSome r (λ h. IsBetter h.score there.now.score)) }
-    ensures one { IfOk result (λ r. IfSome r (λ h. IsTried artery.now timing.now there.now.rounded.seconds h)) }
+    requires not_first { 1 ≤ given.start }
+    requires step { given.step ≤ 7200 }
+    ensures { IfOk result (λ next. IsMadeWith artery.now timing.now there.now (given ∷ []) best next) }
 {
-    artery.known_valid();
-    let rounded = moved(alloc, &there.rounded, by)?;
-    let found = try_offsets(alloc, artery, timing, scale, rounded)?;
-    Ok(better_of(there, found, held))
+    let found = plan_after(alloc, artery, timing, scale, there, given)?;
+    Ok(better_of(there, found, best))
 }
 
-/// How far a move reaches: one signal, or all from it on.
-#[derive(Clone, Copy)]
-enum Reach {
-    One,
-    On,
-}
-
-/// The place at which a move from a place ends.
-fn stop_of(reach: Reach, place: usize, count: usize) -> usize
-    requires { place < count }
-    ensures { result ≡ stop_of reach place count }
-{
-    match reach {
-        Reach::One => place + 1,
-        Reach::On => count,
-    }
-}
-
-/// The best plan that is known once every signal but the first is moved so.
+/// The best of the plans so far once every signal but the first is moved so.
 fn try_places(
     alloc: Global,
     artery: &Artery,
@@ -97,39 +91,34 @@ fn try_places(
     there: &Tried,
     reach: Reach,
     step: u64,
-    held: Option<Tried>,
+    best: Option<Tried>,
 ) -> Result<Option<Tried>, Memory>
     requires good { Good artery.now timing.now }
     requires scale { IsScale artery.now timing.now there.now.rounded.seconds scale.grid scale.unit }
     requires whole { IsWholeCycle artery.now there.now.rounded.seconds }
     requires there { IsTried artery.now timing.now there.now.rounded.seconds there.now }
     requires step { step ≤ 7200 }
-    requires held_is { IfSome held (λ h. IsTried artery.now timing.now there.now.rounded.seconds h) }
-    requires held_better { IfSome held (λ h. IsBetter h.score there.now.score) }
-    ensures none { IfOk result (λ r. IfNone r (held ≡ None)) }
-    ensures no_better { IfOk result (λ r. IfNone r
-        (NoneBetterAt artery.now timing.now there.now.rounded.seconds there.now reach step (length there.now.rounded.offsets.items))) }
-    ensures better { IfOk result (λ r. IfSome r (λ h. IsBetter h.score there.now.score)) }
-    ensures one { IfOk result (λ r. IfSome r (λ h. IsTried artery.now timing.now there.now.rounded.seconds h)) }
+    ensures { IfOk result (λ next. IsMadeWith artery.now timing.now there.now (moves_by reach step (length there.now.rounded.offsets.items)) best next) }
 {
+    artery.known_valid();
     let count = there.rounded.offsets.len();
-    let mut best = held;
+    let mut next = best;
     for start in 1..count {
         let stop = stop_of(reach, start, count);
-        best = try_move(
+        next = try_move(
             alloc,
             artery,
             timing,
             scale,
             there,
             Move { start, stop, step },
-            best,
+            next,
         )?;
     }
-    Ok(best)
+    Ok(next)
 }
 
-/// The best plan that is known once the moves of this reach are tried.
+/// The best of the plans so far once the moves of this reach are tried.
 fn try_steps(
     alloc: Global,
     artery: &Artery,
@@ -137,25 +126,20 @@ fn try_steps(
     scale: GridScale,
     there: &Tried,
     reach: Reach,
-    held: Option<Tried>,
+    best: Option<Tried>,
 ) -> Result<Option<Tried>, Memory>
     requires good { Good artery.now timing.now }
     requires scale { IsScale artery.now timing.now there.now.rounded.seconds scale.grid scale.unit }
     requires whole { IsWholeCycle artery.now there.now.rounded.seconds }
     requires there { IsTried artery.now timing.now there.now.rounded.seconds there.now }
-    requires held_is { IfSome held (λ h. IsTried artery.now timing.now there.now.rounded.seconds h) }
-    requires held_better { IfSome held (λ h. IsBetter h.score there.now.score) }
-    ensures none { IfOk result (λ r. IfNone r (held ≡ None)) }
-    ensures no_better { IfOk result (λ r. IfNone r ((step : ℕ) → IsStep there.now.rounded.seconds step
-        → NoneBetterAt artery.now timing.now there.now.rounded.seconds there.now reach step (length there.now.rounded.offsets.items))) }
-    ensures better { IfOk result (λ r. IfSome r (λ h. IsBetter h.score there.now.score)) }
-    ensures one { IfOk result (λ r. IfSome r (λ h. IsTried artery.now timing.now there.now.rounded.seconds h)) }
+    ensures { IfOk result (λ next. IsMadeWith artery.now timing.now there.now
+        (moves_of reach there.now.rounded.seconds (length there.now.rounded.offsets.items)) best next) }
 {
     artery.known_valid();
-    let seconds = there.rounded.seconds;
-    let one = try_places(alloc, artery, timing, scale, there, reach, 1, held)?;
-    let two = try_places(alloc, artery, timing, scale, there, reach, seconds - 1, one)?;
-    let three = try_places(alloc, artery, timing, scale, there, reach, 2, two)?;
+    let back = there.rounded.seconds - 1;
+    let plus_one = try_places(alloc, artery, timing, scale, there, reach, 1, best)?;
+    let minus_one = try_places(alloc, artery, timing, scale, there, reach, back, plus_one)?;
+    let plus_two = try_places(alloc, artery, timing, scale, there, reach, 2, minus_one)?;
     try_places(
         alloc,
         artery,
@@ -163,12 +147,12 @@ fn try_steps(
         scale,
         there,
         reach,
-        2 * seconds - 2,
-        three,
+        2 * there.rounded.seconds - 2,
+        plus_two,
     )
 }
 
-/// The best move's plan that is better than what is there, or None where no move's is.
+/// The plan of the best move, of equally good ones of the first, or None where no move's is better than what is there.
 fn best_move(
     alloc: Global,
     artery: &Artery,
@@ -180,15 +164,13 @@ fn best_move(
     requires scale { IsScale artery.now timing.now there.now.rounded.seconds scale.grid scale.unit }
     requires whole { IsWholeCycle artery.now there.now.rounded.seconds }
     requires there { IsTried artery.now timing.now there.now.rounded.seconds there.now }
-    ensures none { IfOk result (λ r. IfNone r (NoMoveIsBetter artery.now timing.now there.now.rounded.seconds there.now)) }
-    ensures better { IfOk result (λ r. IfSome r (λ h. IsBetter h.score there.now.score)) }
-    ensures one { IfOk result (λ r. IfSome r (λ h. IsTried artery.now timing.now there.now.rounded.seconds h)) }
+    ensures { IfOk result (λ best. IsMade artery.now timing.now there.now (moves there.now.rounded.seconds (length there.now.rounded.offsets.items)) best) }
 {
-    let one = try_steps(alloc, artery, timing, scale, there, Reach::One, None)?;
-    try_steps(alloc, artery, timing, scale, there, Reach::On, one)
+    let alone = try_steps(alloc, artery, timing, scale, there, Reach::One, None)?;
+    try_steps(alloc, artery, timing, scale, there, Reach::On, alone)
 }
 
-/// The plan that is there once no move is better.
+/// The plan that is there once the best move has been made as long as one is better.
 pub fn settled(
     alloc: Global,
     artery: &Artery,
@@ -205,11 +187,11 @@ pub fn settled(
     ensures no_worse { IfOk result (λ x. ¬ IsBetter first.score x.score) }
 {
     artery.known_valid();
-    let mut best = first;
+    let mut there = first;
     loop {
-        match best_move(alloc, artery, timing, scale, &best)? {
-            Some(better) => best = better,
-            None => return Ok(best),
+        match best_move(alloc, artery, timing, scale, &there)? {
+            Some(better) => there = better,
+            None => return Ok(there),
         }
     }
 }

@@ -14,7 +14,7 @@ use Rattle.whole_offsets.proofs.Scores.{better_irrefl, no_better_on}
 use Rattle.whole_offsets.specs.Score.{IsBetter}
 use Rattle.whole_offsets.specs.Steady.{IsEndOf}
 use Rattle.whole_offsets.specs.declared.answer.OffsetPlan.{OffsetPlan}
-use Rattle.whole_plan.specs.Sets.{IsSet, HasNoSet}
+use Rattle.whole_plan.specs.Sets.{IsOffsetSet, HasNoOffsetSet}
 use Rattle.whole_plan.specs.Choice.{IsNoWider, IsChosen, IsNoBetter, IsBroken, IsEnded}
 
 -- ---- lists
@@ -49,7 +49,7 @@ module _ (a : Street) (given : Option TimingRecord) where
   broken_narrower P q j (inl (r, h)) = inr (inl (r, (h.0, λ g. absurd (not_good a r.timing r.end h.0.set.end h.1.0 g))))
   broken_narrower P q j (inr h) = inr (inr h)
 
-  unset_narrower : (P : ℚ → Type 0) (j : ℕ) → ((d : PlanEnd) × HasNoSet a given j d) → IsNoWider a given P j
+  unset_narrower : (P : ℚ → Type 0) (j : ℕ) → ((d : PlanEnd) × HasNoOffsetSet a given j d) → IsNoWider a given P j
   unset_narrower P j h = inr (inr h)
 
   module _ (cycles : List ℕ) (k : ℕ) (q : OffsetPlan) where
@@ -57,7 +57,7 @@ module _ (a : Street) (given : Option TimingRecord) where
     Wider x = x <ℚ weighted_band a q.timing
 
     -- it takes the place of all that are less wide
-    pub taken : IsSet a given k q → Good a q.timing → All (IsNoWider a given Wider) cycles → IsChosen a given (cycles ++ k ∷ []) k q
+    pub taken : IsOffsetSet a given k q → Good a q.timing → All (IsNoWider a given Wider) cycles → IsChosen a given (cycles ++ k ∷ []) k q
     taken set good all = record { set = set; good = good; before = cycles; after = []; cycles_are = refl; earlier = all; later = none_in _ }
 
     pub first_taken : cycles ≡ [] → All (IsNoWider a given Wider) cycles
@@ -94,7 +94,7 @@ module _ (a : Street) (given : Option TimingRecord) where
   pub none_before : (cycles : List ℕ) (q : OffsetPlan) → cycles ≡ [] → All (IsNoBetter a given q) cycles
   none_before cycles q e = subst (λ xs. All (IsNoBetter a given q) xs) (sym e) (none_in _)
 
-  module _ (cycles : List ℕ) (k : ℕ) (q : OffsetPlan) (e : PlanEnd) (set : IsSet a given k q) (breaks : q.end ≡ Some e) where
+  module _ (cycles : List ℕ) (k : ℕ) (q : OffsetPlan) (e : PlanEnd) (set : IsOffsetSet a given k q) (breaks : q.end ≡ Some e) where
     broken : ¬ (q.end ≡ None)
     broken h = let f = sym breaks ∙ h in cc
 
@@ -131,20 +131,20 @@ module _ (a : Street) (given : Option TimingRecord) where
   }
 
   -- ---- no set
-  pub first_ended : (cycles : List ℕ) (k : ℕ) (e : PlanEnd) → cycles ≡ [] → HasNoSet a given k e → IsEnded a given (cycles ++ k ∷ []) e
+  pub first_ended : (cycles : List ℕ) (k : ℕ) (e : PlanEnd) → cycles ≡ [] → HasNoOffsetSet a given k e → IsEnded a given (cycles ++ k ∷ []) e
   first_ended cycles k e empty h = record {
     k = k;
     more = [];
     cycles_are = ap (λ xs. xs ++ k ∷ []) empty;
     first = h;
-    all = All-push (λ j. (d : PlanEnd) × HasNoSet a given j d) cycles k (subst (λ xs. All (λ j. (d : PlanEnd) × HasNoSet a given j d) xs) (sym empty) (none_in _)) (e, h);
+    all = All-push (λ j. (d : PlanEnd) × HasNoOffsetSet a given j d) cycles k (subst (λ xs. All (λ j. (d : PlanEnd) × HasNoOffsetSet a given j d) xs) (sym empty) (none_in _)) (e, h);
   }
 
-  pub ended_stays : (cycles : List ℕ) (e : PlanEnd) (k : ℕ) (d : PlanEnd) → IsEnded a given cycles e → HasNoSet a given k d → IsEnded a given (cycles ++ k ∷ []) e
+  pub ended_stays : (cycles : List ℕ) (e : PlanEnd) (k : ℕ) (d : PlanEnd) → IsEnded a given cycles e → HasNoOffsetSet a given k d → IsEnded a given (cycles ++ k ∷ []) e
   ended_stays cycles e k d h none = record {
     k = h.k;
     more = h.more ++ k ∷ [];
     cycles_are = ap (λ xs. xs ++ k ∷ []) h.cycles_are;
     first = h.first;
-    all = All-push (λ j. (d : PlanEnd) × HasNoSet a given j d) cycles k h.all (d, none);
+    all = All-push (λ j. (d : PlanEnd) × HasNoOffsetSet a given j d) cycles k h.all (d, none);
   }

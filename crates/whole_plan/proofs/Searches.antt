@@ -1,5 +1,5 @@
 -- What a search of the street with one cycle alone says of the street.
-use Rattle.std.proofs.Common.{◌≡◌, ℕ, pos, Option, Some, None, Result, Ok, Err, inl, inr, refl, sym, ◌∙◌, ap, subst, arith}
+use Rattle.std.proofs.Common.{◌≡◌, ℕ, pos, Option, Some, None, Result, Ok, Err, inr, sym, ap, subst, arith}
 use Rattle.std.specs.Prelude.{IfSome, IfOk}
 use Rattle.std.specs.Option.{option_or}
 use Rattle.std.proofs.lemmas.Int.{ints}
@@ -19,10 +19,10 @@ use Rattle.branch_tree.specs.WholeBands.{whole_bands}
 use Rattle.second_plan.specs.Seconds.{IsWholeCycle}
 use Rattle.second_plan.specs.declared.answer.PlanEnd.TheVariants as end
 use Rattle.whole_plan.specs.Sought.{street_at, bound_by, IsCeiling, IsSought, IsStart}
-use Rattle.whole_plan.specs.Sets.{HasNoSet, IsTriedFrom, IsTried}
+use Rattle.whole_plan.specs.Sets.{IsOutcomeFrom, IsOutcome}
 use Rattle.whole_plan.specs.declared.searching.Sought.{Sought}
-use Rattle.whole_plan.specs.declared.setting.Tried.{Tried}
-use Rattle.whole_plan.specs.declared.setting.Tried.TheVariants.{Set, Ended}
+use Rattle.whole_plan.specs.declared.setting.Outcome.{Outcome}
+use Rattle.whole_plan.specs.declared.setting.Outcome.TheVariants.{OffsetSet, Ended}
 
 pub ceiling_of : (a : Street) (timing : Option TimingRecord) (bound : ℚ) (v : Verdict SitePart) → ProvesOf (whole_bands a) timing bound v → IsCeiling a (bound_by v bound)
 ceiling_of a None bound Best h = absurd h
@@ -60,10 +60,10 @@ all_within a k s (Some t) w e h = good_within a k t w (subst (λ b. Good b t) e 
 
 -- ---- what comes of a cycle
 module _ (a : Street) (given : Option TimingRecord) (k : ℕ) (s : Sought) (found : IsSought (street_at a k) s) where
-  from_start : (t : TimingRecord) (r : Tried) → IsStart a given k (Some t) → IsTriedFrom a t k r → IsTried a given k r
-  from_start t (Set q) start h = record { timing = t; start = start; set = h }
+  from_start : (t : TimingRecord) (r : Outcome) → IsStart a given k (Some t) → IsOutcomeFrom a t k r → IsOutcome a given k r
+  from_start t (OffsetSet q) start h = record { timing = t; start = start; set = h }
   from_start t (Ended e) start h = inr (t, (start, h))
 
-  pub from_found : (t : TimingRecord) (r : Result Tried Memory) → s.timing ≡ Some t → IfOk r (λ x. IsTriedFrom a t k x) → IfOk r (λ x. IsTried a given k x)
+  pub from_found : (t : TimingRecord) (r : Result Outcome Memory) → s.timing ≡ Some t → IfOk r (λ x. IsOutcomeFrom a t k x) → IfOk r (λ x. IsOutcome a given k x)
   from_found t (Err m) e h = tt
   from_found t (Ok r) e h = from_start t r (record { sought = s; found = found; start_is = sym (ap (λ o. option_or o given) e) }) h

@@ -1,5 +1,5 @@
 -- One cycle more, by what came of those before it.
-use Rattle.std.proofs.Common.{◌≡◌, ℕ, Option, Some, None, inl, inr, subst}
+use Rattle.std.proofs.Common.{◌≡◌, ℕ, Option, Some, None, inl, inr, sym, subst}
 use Rattle.std.specs.Prelude.{IfSome}
 use Rattle.rational_theory.specs.Rational.{ℚ, ◌≤ℚ◌, ◌<ℚ◌}
 use Rattle.progression.specs.Street.{Street}
@@ -10,9 +10,10 @@ use Rattle.second_plan.specs.declared.answer.PlanEnd.{PlanEnd}
 use Rattle.whole_offsets.specs.Score.{IsBetter}
 use Rattle.whole_offsets.specs.Steady.{IsEndOf}
 use Rattle.whole_plan.specs.Sought.{street_at, IsCeiling}
-use Rattle.whole_plan.specs.Sets.{IsSet, HasNoSet}
+use Rattle.whole_plan.specs.Sets.{IsOffsetSet, HasNoOffsetSet}
 use Rattle.whole_plan.specs.Choice.{IsNext}
 use Rattle.whole_plan.specs.declared.choosing.Candidate.{Candidate}
+use Rattle.whole_plan.specs.declared.choosing.SoFar.{SoFar}
 use Rattle.whole_plan.specs.declared.choosing.SoFar.TheVariants.{Nothing, Ended, Broken, Chosen}
 use Rattle.whole_plan.proofs.Choices.{taken, first_taken, taken_from_none, taken_from_broken, taken_from_chosen, stays, first_broken}
 use Rattle.whole_plan.proofs.Choices.{none_before, broken_from_none, broken_from_worse, broken_no_better, broken_no_wider, broken_stays, first_ended, ended_stays}
@@ -22,7 +23,7 @@ good_of a p o e h = subst (λ x. IsEndOf a p x) e h
 
 module _ (a : Street) (given : Option TimingRecord) where
   -- ---- a good plan
-  module _ (next : Candidate) (set : IsSet a given next.seconds next.plan) (ends : next.plan.end ≡ None) where
+  module _ (next : Candidate) (set : IsOffsetSet a given next.seconds next.plan) (ends : next.plan.end ≡ None) where
     good : Good a next.plan.timing
     good = good_of a next.plan.timing next.plan.end ends set.set.end
 
@@ -32,8 +33,11 @@ module _ (a : Street) (given : Option TimingRecord) where
     pub after_ended : (e : PlanEnd) → IsNext a given next.seconds (Ended e) (Chosen next)
     after_ended e cycles h = taken a given cycles next.seconds next.plan set good (taken_from_none a given cycles next.seconds next.plan e h)
 
-    pub after_broken : (best : Candidate) (e : PlanEnd) → IsNext a given next.seconds (Broken best e) (Chosen next)
+    after_broken : (best : Candidate) (e : PlanEnd) → IsNext a given next.seconds (Broken best e) (Chosen next)
     after_broken best e cycles h = taken a given cycles next.seconds next.plan set good (taken_from_broken a given cycles next.seconds next.plan best.seconds best.plan e h)
+
+    pub from_broken : {best : Candidate} {e : PlanEnd} (before : SoFar) → before ≡ Broken best e → IsNext a given next.seconds before (Chosen next)
+    from_broken {best} {e} before is = subst (λ (s : SoFar). IsNext a given next.seconds s (Chosen next)) (sym is) (after_broken best e)
 
     pub after_chosen : (best : Candidate) → best.plan.score.weighted <ℚ next.plan.score.weighted → IsNext a given next.seconds (Chosen best) (Chosen next)
     after_chosen best less cycles h =
@@ -48,7 +52,7 @@ module _ (a : Street) (given : Option TimingRecord) where
         stays a given cycles best.seconds best.plan next.seconds h (inr (inl (next.plan, (set, λ g. no_wider))))
 
   -- ---- a plan that breaks a rule
-  module _ (next : Candidate) (e : PlanEnd) (set : IsSet a given next.seconds next.plan) (breaks : next.plan.end ≡ Some e) where
+  module _ (next : Candidate) (e : PlanEnd) (set : IsOffsetSet a given next.seconds next.plan) (breaks : next.plan.end ≡ Some e) where
     pub broken_after_nothing : IsNext a given next.seconds Nothing (Broken next e)
     broken_after_nothing cycles h = first_broken a given cycles next.seconds next.plan e set breaks (none_before a given cycles next.plan h)
 
@@ -67,7 +71,7 @@ module _ (a : Street) (given : Option TimingRecord) where
     chosen_before_stays best cycles h = stays a given cycles best.seconds best.plan next.seconds h (broken_no_wider a given cycles next.seconds next.plan e set breaks _)
 
   -- ---- no set
-  module _ (k : ℕ) (e : PlanEnd) (none : HasNoSet a given k e) where
+  module _ (k : ℕ) (e : PlanEnd) (none : HasNoOffsetSet a given k e) where
     pub ended_after_nothing : IsNext a given k Nothing (Ended e)
     ended_after_nothing cycles h = first_ended a given cycles k e h none
 

@@ -9,7 +9,7 @@ use Rattle.second_plan.specs.declared.answer.PlanEnd.{PlanEnd}
 use Rattle.whole_offsets.specs.Score.{IsBetter}
 use Rattle.whole_offsets.specs.declared.answer.OffsetPlan.{OffsetPlan}
 use Rattle.whole_plan.specs.Sought.{street_at, IsCeiling}
-use Rattle.whole_plan.specs.Sets.{IsSet, HasNoSet}
+use Rattle.whole_plan.specs.Sets.{IsOffsetSet, HasNoOffsetSet}
 use Rattle.whole_plan.specs.declared.choosing.SoFar.{SoFar}
 use Rattle.whole_plan.specs.declared.choosing.SoFar.TheVariants.{Nothing, Ended, Broken, Chosen}
 
@@ -20,12 +20,12 @@ IsPassed a Allowed k = (bound : Option ℚ) × (IsCeiling (street_at a k) bound 
 abbrev pub IsNoWider : Street → Option TimingRecord → (ℚ → Type 0) → ℕ → Type 0
 IsNoWider a given Allowed k =
     IsPassed a Allowed k
-    ⊎ ((q : OffsetPlan) × (IsSet a given k q × (Good a q.timing → Allowed (weighted_band a q.timing))))
-    ⊎ ((e : PlanEnd) × HasNoSet a given k e)
+    ⊎ ((q : OffsetPlan) × (IsOffsetSet a given k q × (Good a q.timing → Allowed (weighted_band a q.timing))))
+    ⊎ ((e : PlanEnd) × HasNoOffsetSet a given k e)
 
 -- a good plan, wider than all of the cycles before it, and no less wide than all of those after it
 pub record IsChosen (a : Street) (given : Option TimingRecord) (cycles : List ℕ) (k : ℕ) (q : OffsetPlan) : Type 0 where
-  pub set : IsSet a given k q
+  pub set : IsOffsetSet a given k q
   pub good : Good a q.timing
   pub before : List ℕ
   pub after : List ℕ
@@ -35,10 +35,10 @@ pub record IsChosen (a : Street) (given : Option TimingRecord) (cycles : List �
 
 -- where no cycle has a good plan: a best set, and the first rule that its plan breaks
 abbrev pub IsNoBetter : Street → Option TimingRecord → OffsetPlan → ℕ → Type 0
-IsNoBetter a given q k = ((r : OffsetPlan) × (IsSet a given k r × ((¬ (r.end ≡ None)) × ¬ IsBetter r.score q.score))) ⊎ ((e : PlanEnd) × HasNoSet a given k e)
+IsNoBetter a given q k = ((r : OffsetPlan) × (IsOffsetSet a given k r × ((¬ (r.end ≡ None)) × ¬ IsBetter r.score q.score))) ⊎ ((e : PlanEnd) × HasNoOffsetSet a given k e)
 
 pub record IsBroken (a : Street) (given : Option TimingRecord) (cycles : List ℕ) (k : ℕ) (q : OffsetPlan) (e : PlanEnd) : Type 0 where
-  pub set : IsSet a given k q
+  pub set : IsOffsetSet a given k q
   pub breaks : q.end ≡ Some e
   pub among : Contains cycles k
   pub best : All (IsNoBetter a given q) cycles
@@ -48,8 +48,8 @@ pub record IsEnded (a : Street) (given : Option TimingRecord) (cycles : List ℕ
   pub k : ℕ
   pub more : List ℕ
   pub cycles_are : cycles ≡ k ∷ more
-  pub first : HasNoSet a given k e
-  pub all : All (λ j. (d : PlanEnd) × HasNoSet a given j d) cycles
+  pub first : HasNoOffsetSet a given k e
+  pub all : All (λ j. (d : PlanEnd) × HasNoOffsetSet a given j d) cycles
 
 -- what came of the cycles so far
 abbrev pub IsSoFar : Street → Option TimingRecord → List ℕ → SoFar → Type 0

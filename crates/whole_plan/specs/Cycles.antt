@@ -9,7 +9,7 @@ use Rattle.artery_model.specs.Limits.{at_most}
 use Rattle.second_plan.specs.Nearest.{apart}
 use Rattle.whole_plan.specs.declared.cycles.Seconds.{Seconds}
 
--- a cycle of so many seconds is within the limits
+-- a cycle of so many seconds is within the limits: `IsWholeCycle` of `second_plan` as a test
 abbrev pub is_whole_cycle : Street → ℕ → Bool
 is_whole_cycle a k = at_most a.head.cycle.least (number k) && at_most (number k) a.head.cycle.most
 

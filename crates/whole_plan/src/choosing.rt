@@ -3,9 +3,9 @@
 ghost use Rattle.std.specs.Prelude.{◌≡◌, false, Option, Some, None, IsTrue, IfSome};
 ghost use Rattle.rational_theory.specs.Rational.{◌≤ℚ◌, ◌<ℚ◌};
 ghost use Rattle.progression.specs.{Street.{Street}, TimingRecord.{TimingRecord}};
-ghost use Rattle.whole_plan.specs.{Sought.{street_at, IsCeiling}, Sets.{IsSet, HasNoSet, IsTried}, Choice.{IsNext}};
+ghost use Rattle.whole_plan.specs.{Sought.{street_at, IsCeiling}, Sets.{IsOffsetSet, HasNoOffsetSet, IsOutcome}, Choice.{IsNext}};
 
-use crate::setting::Tried;
+use crate::setting::Outcome;
 use narrow_fraction::Frac;
 use second_plan::PlanEnd;
 use whole_offsets::{OffsetPlan, is_better};
@@ -41,7 +41,7 @@ fn is_wider(one: &Candidate, other: &Candidate) -> bool
 /// With a cycle whose plan is good: it takes the place of any that is less wide.
 fn with_good(so_far: SoFar, next: Candidate) -> SoFar
     requires { next.plan.end ≡ None }
-    ensures { (a : Street) (given : Option TimingRecord) → IsSet a given next.seconds next.plan → IsNext a given next.seconds so_far result }
+    ensures { (a : Street) (given : Option TimingRecord) → IsOffsetSet a given next.seconds next.plan → IsNext a given next.seconds so_far result }
 {
     match so_far {
         SoFar::Chosen(best) => {
@@ -60,7 +60,7 @@ fn with_good(so_far: SoFar, next: Candidate) -> SoFar
 /// With a cycle whose plan breaks this rule first.
 fn with_broken(so_far: SoFar, next: Candidate, end: PlanEnd) -> SoFar
     requires { next.plan.end ≡ Some end }
-    ensures { (a : Street) (given : Option TimingRecord) → IsSet a given next.seconds next.plan → IsNext a given next.seconds so_far result }
+    ensures { (a : Street) (given : Option TimingRecord) → IsOffsetSet a given next.seconds next.plan → IsNext a given next.seconds so_far result }
 {
     match so_far {
         SoFar::Chosen(best) => SoFar::Chosen(best),
@@ -78,7 +78,7 @@ fn with_broken(so_far: SoFar, next: Candidate, end: PlanEnd) -> SoFar
 
 /// With a cycle that has no set.
 fn with_end(so_far: SoFar, seconds: u64, end: PlanEnd) -> SoFar
-    ensures { (a : Street) (given : Option TimingRecord) → HasNoSet a given seconds end → IsNext a given seconds so_far result }
+    ensures { (a : Street) (given : Option TimingRecord) → HasNoOffsetSet a given seconds end → IsNext a given seconds so_far result }
 {
     match so_far {
         SoFar::Nothing => SoFar::Ended(end),
@@ -89,8 +89,8 @@ fn with_end(so_far: SoFar, seconds: u64, end: PlanEnd) -> SoFar
 }
 
 /// With a cycle of which a set came.
-fn with_set(so_far: SoFar, seconds: u64, plan: OffsetPlan) -> SoFar
-    ensures { (a : Street) (given : Option TimingRecord) → IsSet a given seconds plan → IsNext a given seconds so_far result }
+fn with_offset_set(so_far: SoFar, seconds: u64, plan: OffsetPlan) -> SoFar
+    ensures { (a : Street) (given : Option TimingRecord) → IsOffsetSet a given seconds plan → IsNext a given seconds so_far result }
 {
     let end = plan.end;
     match end {
@@ -100,12 +100,12 @@ fn with_set(so_far: SoFar, seconds: u64, plan: OffsetPlan) -> SoFar
 }
 
 /// With what came of one more cycle.
-pub(crate) fn with_tried(so_far: SoFar, seconds: u64, tried: Tried) -> SoFar
-    ensures { (a : Street) (given : Option TimingRecord) → IsTried a given seconds tried → IsNext a given seconds so_far result }
+pub(crate) fn with_outcome(so_far: SoFar, seconds: u64, outcome: Outcome) -> SoFar
+    ensures { (a : Street) (given : Option TimingRecord) → IsOutcome a given seconds outcome → IsNext a given seconds so_far result }
 {
-    match tried {
-        Tried::Set(plan) => with_set(so_far, seconds, plan),
-        Tried::Ended(end) => with_end(so_far, seconds, end),
+    match outcome {
+        Outcome::OffsetSet(plan) => with_offset_set(so_far, seconds, plan),
+        Outcome::Ended(end) => with_end(so_far, seconds, end),
     }
 }
 

@@ -1,18 +1,19 @@
 //! Which cycles are tried.
 
-ghost use Rattle.std.specs.{Prelude.{◌≡◌, ◌≤◌, ◌<◌, ◌^◌, All, filter, IfOk, unsigned_abs}};
+ghost use Rattle.std.specs.{Prelude.{◌≡◌, ◌≤◌, ◌<◌, ◌^◌, All, filter, IfOk}};
 ghost use Rattle.artery_model.specs.{Bounds.{least_cycle, most_cycle}, Valid.{IsPair}};
 ghost use Rattle.progression.specs.Speeds.{number};
 ghost use Rattle.second_plan.specs.Seconds.{IsWholeCycle};
 ghost use Rattle.whole_plan.specs.Cycles.{is_whole_cycle, whole_cycles, middle, centre, is_nearer, is_near, is_named, tried_cycles};
 
+use artery_model::bounds::MOST_CYCLE;
 use artery_model::{Artery, Pair};
 use narrow_fraction::{Frac, Memory};
 use std::alloc::Global;
 use time_space::{Timing, cycle};
 
 /// The most seconds that a cycle may have.
-const MOST_SECONDS: u64 = 3600;
+const MOST_SECONDS: u64 = MOST_CYCLE as u64;
 
 /// How many cycles are tried at most where none are named.
 const MOST_CYCLES: usize = 100;
@@ -54,13 +55,6 @@ fn whole_cycles(alloc: Global, artery: &Artery) -> Result<Vec<u64>, Memory>
     Ok(cycles)
 }
 
-/// The numerator without its sign.
-fn size(limit: Frac) -> u128
-    ensures { result ≡ unsigned_abs limit.num }
-{
-    limit.num().unsigned_abs()
-}
-
 /// Halfway between the limits.
 fn middle(limits: Pair) -> Seconds
     requires { IsPair least_cycle most_cycle limits }
@@ -68,8 +62,11 @@ fn middle(limits: Pair) -> Seconds
     ensures num { result.num < 2 ^ 92 }
     ensures den { result.den < 2 ^ 80 }
 {
-    let (least, least_den) = (size(limits.least), limits.least.den() as u128);
-    let (most, most_den) = (size(limits.most), limits.most.den() as u128);
+    let (least, least_den) = (
+        limits.least.num().unsigned_abs(),
+        limits.least.den() as u128,
+    );
+    let (most, most_den) = (limits.most.num().unsigned_abs(), limits.most.den() as u128);
     Seconds {
         num: least * most_den + most * least_den,
         den: 2 * (least_den * most_den),

@@ -1,4 +1,4 @@
-//! The best plan over several cycles.
+//! The widest plan that is found over several cycles.
 
 ghost use Rattle.std.specs.Prelude.{ℕ, List, Option, All, IfOk, IfErr, IfSome};
 ghost use Rattle.rational_theory.specs.Rational.{◌≤ℚ◌};
@@ -7,9 +7,9 @@ ghost use Rattle.second_plan.specs.Seconds.{IsWholeCycle};
 ghost use Rattle.whole_offsets.specs.Offsets.{IsBestOfRuns};
 ghost use Rattle.whole_plan.specs.{Choice.{IsSoFar, IsNext, IsChosen}, Planned.{IsWholePlan, Faults}};
 
-use crate::choosing::{Candidate, SoFar, is_passed, with_tried};
+use crate::choosing::{Candidate, SoFar, is_passed, with_outcome};
 use crate::searching::sought_at;
-use crate::setting::tried_at;
+use crate::setting::outcome_at;
 use artery_model::Artery;
 use narrow_fraction::{Frac, Memory};
 use second_plan::{Plan, PlanEnd, PlanFault};
@@ -33,8 +33,8 @@ fn with_cycle(
     if is_passed(&so_far, seconds, sought.bound) {
         return Ok(so_far);
     }
-    let tried = tried_at(alloc, artery, given, &sought, seconds)?;
-    Ok(with_tried(so_far, seconds, tried))
+    let outcome = outcome_at(alloc, artery, given, &sought, seconds)?;
+    Ok(with_outcome(so_far, seconds, outcome))
 }
 
 /// What comes of the cycles.
@@ -91,12 +91,16 @@ fn finished(artery: &Artery, claim: Frac, so_far: SoFar) -> Result<Plan, PlanFau
     }
 }
 
-/// The best plan in whole seconds over several cycles.
+/// The widest plan in whole seconds that is found over several cycles.
 ///
 /// Of each cycle the street with it alone is searched, and the offsets start from the timing that was found, or from the given one where
-/// none was. A cycle whose search has a bound that isn't above the best plan so far is passed over. Of the plans that are good that
-/// of the greatest weighted band is answered, of equal ones that of the first cycle; where the claim bounds the artery its loss is at
-/// least 0. Where no plan is good the first rule that the best set of offsets breaks is told.
+/// none was. A cycle whose search has a bound that isn't above the widest plan so far is passed over. Of the plans that are good that
+/// of the greatest weighted band is answered, of equal ones that of the first cycle: the least where the cycles ascend, as those of
+/// `tried_cycles` do. Where the claim bounds the artery its loss is at least 0.
+///
+/// Faults: `NoWholeCycle` of no cycles. Where no cycle has a plan, `NoTimingGiven` or `TooFine`, as it is at the first. Where no plan is
+/// good, `NoLine` or `Fails`: the first rule that the best set of offsets breaks. `Wide` where the claim less the plan's weighted band
+/// leaves 128 bits. Want of memory may come in place of any answer.
 pub fn whole_plan(
     alloc: Global,
     artery: &Artery,

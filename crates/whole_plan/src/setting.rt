@@ -3,7 +3,7 @@
 ghost use Rattle.std.specs.Prelude.{IfOk, IfSome};
 ghost use Rattle.progression.specs.Good.{Good};
 ghost use Rattle.second_plan.specs.Seconds.{IsWholeCycle};
-ghost use Rattle.whole_plan.specs.{Sought.{street_at, IsSought}, Sets.{IsTriedFrom, IsTried}};
+ghost use Rattle.whole_plan.specs.{Sought.{street_at, IsSought}, Sets.{IsOutcomeFrom, IsOutcome}};
 
 use crate::searching::Sought;
 use artery_model::Artery;
@@ -15,50 +15,50 @@ use whole_offsets::{OffsetPlan, steady};
 
 /// What comes of a cycle.
 #[derive(Drop)]
-pub(crate) enum Tried {
+pub(crate) enum Outcome {
     /// Offsets from which no move is better, with their plan.
-    Set(OffsetPlan),
-    /// There are none.
+    OffsetSet(OffsetPlan),
+    /// There are none, for this reason.
     Ended(PlanEnd),
 }
 
 /// What comes of a cycle from this timing.
-fn tried_from(
+fn outcome_from(
     alloc: Global,
     artery: &Artery,
     timing: &Timing,
     seconds: u64,
-) -> Result<Tried, Memory>
+) -> Result<Outcome, Memory>
     requires good { Good artery.now timing.now }
     requires whole { IsWholeCycle artery.now seconds }
-    ensures { IfOk result (λ tried. IsTriedFrom artery.now timing.now seconds tried) }
+    ensures { IfOk result (λ outcome. IsOutcomeFrom artery.now timing.now seconds outcome) }
 {
     match steady(alloc, artery, timing, seconds) {
-        Ok(plan) => Ok(Tried::Set(plan)),
-        Err(PlanFault::End(end)) => Ok(Tried::Ended(end)),
+        Ok(plan) => Ok(Outcome::OffsetSet(plan)),
+        Err(PlanFault::End(end)) => Ok(Outcome::Ended(end)),
         Err(PlanFault::Memory) => Err(Memory),
     }
 }
 
 /// What comes of a cycle of which this was found; the given timing serves where none was.
-pub(crate) fn tried_at(
+pub(crate) fn outcome_at(
     alloc: Global,
     artery: &Artery,
     given: &Option<Timing>,
     sought: &Sought,
     seconds: u64,
-) -> Result<Tried, Memory>
+) -> Result<Outcome, Memory>
     requires whole { IsWholeCycle artery.now seconds }
     requires sought { IsSought (street_at artery.now seconds) sought.now }
     requires found { IfSome sought.now.timing (λ timing. Good artery.now timing) }
     requires given { IfSome given.now (λ timing. Good artery.now timing) }
-    ensures { IfOk result (λ tried. IsTried artery.now given.now seconds tried) }
+    ensures { IfOk result (λ outcome. IsOutcome artery.now given.now seconds outcome) }
 {
     match &sought.timing {
-        Some(timing) => tried_from(alloc, artery, timing, seconds),
+        Some(timing) => outcome_from(alloc, artery, timing, seconds),
         None => match given {
-            Some(timing) => tried_from(alloc, artery, timing, seconds),
-            None => Ok(Tried::Ended(PlanEnd::NoTimingGiven)),
+            Some(timing) => outcome_from(alloc, artery, timing, seconds),
+            None => Ok(Outcome::Ended(PlanEnd::NoTimingGiven)),
         },
     }
 }

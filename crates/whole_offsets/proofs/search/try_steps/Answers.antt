@@ -1,26 +1,15 @@
-use Rattle.std.proofs.Common.{◌≡◌, ◌-◌, ◌*◌, ℕ, length, Option}
-use Rattle.std.specs.Prelude.{None, IfNone}
-use Rattle.whole_offsets.specs.Moves.{IsStep}
-use Rattle.whole_offsets.specs.Tried.{NoneBetterAt}
+use Rattle.std.proofs.Common.{◌-◌, ◌*◌, ◌++◌, length, Option}
+use Rattle.whole_offsets.specs.Moves.{moves_by, moves_of}
+use Rattle.whole_offsets.specs.Tried.{IsMadeWith}
 use Rattle.whole_offsets.specs.declared.plan.Tried.{Tried}
-use Rattle.whole_offsets.proofs.Moving.{none_chain, ok_map, ok_both, four_none, all_steps}
+use Rattle.whole_offsets.proofs.Moving.{then, ok_map}
 use Rattle.whole_offsets.proofs.search.try_steps.Goals as goal
 
 pub returns : goal.returns
 returns c =
-    let a = c.args.artery.now in let t = c.args.timing.now in let x = c.args.there.now in let k = x.rounded.seconds in let n = length x.rounded.offsets.items in
-    let none = c.args.held ≡ None in
-    let at : ℕ → Type 0 = λ step. NoneBetterAt a t k x c.args.reach step n in
-    let all : Type 0 = (step : ℕ) → IsStep k step → at step in
-    record {
-      none = ok_map (λ (r : Option Tried). IfNone r (c.in_ok-three.three ≡ None)) (λ (r : Option Tried). IfNone r none) c.try_places-4.result
-          (λ r h. none_chain none r c.in_ok-three.three h (none_chain none c.in_ok-three.three c.in_ok-two.two c.in_ok-three.ensures.none
-          (none_chain none c.in_ok-two.two c.in_ok-one.one c.in_ok-two.ensures.none c.in_ok-one.ensures.none)))
-          c.try_places-4.ensures.none;
-      no_better = ok_both (λ (r : Option Tried). IfNone r (c.in_ok-three.three ≡ None)) (λ (r : Option Tried). IfNone r (at (2 * k - 2))) (λ (r : Option Tried). IfNone r all) c.try_places-4.result
-          (λ r h g. four_none (at 1) (at (k - 1)) (at 2) (at (2 * k - 2)) all c.in_ok-one.one c.in_ok-two.two c.in_ok-three.three r (all_steps k at)
-          c.in_ok-one.ensures.no_better c.in_ok-two.ensures.none c.in_ok-two.ensures.no_better c.in_ok-three.ensures.none c.in_ok-three.ensures.no_better h g)
-          c.try_places-4.ensures.none c.try_places-4.ensures.no_better;
-      better = c.try_places-4.ensures.better;
-      one = c.try_places-4.ensures.one;
-    }
+    let a = c.args.artery.now in let t = c.args.timing.now in let x = c.args.there.now in let k = x.rounded.seconds in let n = length x.rounded.offsets.items in let r = c.args.reach in
+    let one = moves_by r 1 n in let back = moves_by r (k - 1) n in let two = moves_by r 2 n in let last = moves_by r (2 * k - 2) n in
+    let first = then a t x one back c.args.best c.in_ok-plus_one.plus_one c.in_ok-minus_one.minus_one c.in_ok-plus_one.ensures c.in_ok-minus_one.ensures in
+    let second = then a t x (one ++ back) two c.args.best c.in_ok-minus_one.minus_one c.in_ok-plus_two.plus_two first c.in_ok-plus_two.ensures in
+    ok_map (λ (o : Option Tried). IsMadeWith a t x last c.in_ok-plus_two.plus_two o) (λ (o : Option Tried). IsMadeWith a t x (moves_of r k n) c.args.best o) c.try_places-4.result
+    (λ o h. then a t x (one ++ back ++ two) last c.args.best c.in_ok-plus_two.plus_two o second h) c.try_places-4.ensures

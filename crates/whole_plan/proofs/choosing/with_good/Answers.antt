@@ -2,7 +2,7 @@ use Rattle.std.proofs.Common.{sym, subst}
 use Rattle.whole_plan.specs.Choice.{IsNext}
 use Rattle.whole_plan.specs.declared.choosing.SoFar.{SoFar}
 use Rattle.whole_plan.specs.declared.choosing.SoFar.TheVariants.{Chosen}
-use Rattle.whole_plan.proofs.Steps.{after_nothing, after_ended, after_broken, after_chosen, chosen_stays}
+use Rattle.whole_plan.proofs.Steps.{after_nothing, after_ended, from_broken, after_chosen, chosen_stays}
 use Rattle.whole_plan.proofs.choosing.with_good.Goals as goal
 
 pub returns-then-is_wider : goal.returns-then-is_wider
@@ -24,5 +24,4 @@ returns-in-Ended c = λ a given set.
     subst (λ (s : SoFar). IsNext a given c.args.next.seconds s (Chosen c.args.next)) (sym c.in-Ended.is) (after_ended a given c.args.next set c.requires _)
 
 pub returns : goal.returns
-returns c = λ a given set.
-    subst (λ (s : SoFar). IsNext a given c.args.next.seconds s (Chosen c.args.next)) (sym c.in-Broken.is) (after_broken a given c.args.next set c.requires _ _)
+returns c = λ a given set. from_broken a given c.args.next set c.requires c.args.so_far c.in-Broken.is

@@ -1,6 +1,6 @@
 use Rattle.std.proofs.Common.{refl, inl, arith}
 use Rattle.whole_offsets.proofs.Runs.{takes}
-use Rattle.whole_offsets.proofs.lines.found_line.Goals as goal
+use Rattle.whole_offsets.proofs.lines.found_band.Goals as goal
 
 pub returns : goal.returns
 returns c =

@@ -1,6 +1,6 @@
 use Rattle.std.proofs.Common.{refl, inr, arith}
 use Rattle.whole_offsets.proofs.Runs.{least_kept}
-use Rattle.whole_offsets.proofs.lines.no_line.Goals as goal
+use Rattle.whole_offsets.proofs.lines.no_band.Goals as goal
 
 pub returns : goal.returns
 returns c = let l = c.in_ok-runs.ensures.long in let few = c.known_valid.ensures.few in record {

@@ -1,4 +1,4 @@
-use Rattle.whole_plan.proofs.setting.tried_from.Goals as goal
+use Rattle.whole_plan.proofs.setting.outcome_from.Goals as goal
 
 pub returns-in-Ok : goal.returns-in-Ok
 returns-in-Ok c = record { steady = c.in-Ok.ensures.steady; score = c.in-Ok.ensures.score; end = c.in-Ok.ensures.end; best = c.in-Ok.ensures.best }

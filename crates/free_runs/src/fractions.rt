@@ -6,10 +6,9 @@ use narrow_fraction::Frac;
 
 /// The numerator.
 pub fn numerator(given: Frac) -> u128
-    requires least { pos 0 ≤ℤ given.num }
-    requires most { unsigned_abs given.num ≤ 540000000 }
+    requires { pos 0 ≤ℤ given.num }
     ensures value { result ≡ unsigned_abs given.num }
-    ensures most { result ≤ 540000000 }
+    ensures same { pos result ≡ given.num }
 {
     given.num() as u128
 }
