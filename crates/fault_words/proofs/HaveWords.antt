@@ -13,7 +13,7 @@ use Rattle.description_reader.specs.declared.key_table.When.TheVariants.{Always,
 use Rattle.description_reader.specs.declared.place.Section.{Section}
 use Rattle.description_reader.specs.declared.place.Section.TheVariants.{Root, Artery, Signal, Link, PlanRoot, Plan}
 use Rattle.fault_words.specs.Examples.{samples_of}
-use Rattle.fault_words.specs.Promises.{AllHaveWords, has_words, is_typed, is_limited}
+use Rattle.fault_words.specs.Promises.{AllHaveWords, has_words, has_its_unit, is_typed, is_limited, is_limited_but_signal}
 use Rattle.fault_words.specs.Sentences.{kind_line, absent_line}
 use Rattle.fault_words.specs.Wants.{sized_words}
 
@@ -65,6 +65,23 @@ plan : list_all (is_limited Plan) (keys_of Plan) ≡ true
 unfolding keys_of samples_of toml_on_literals whole over quotient gcd cmp_ℚ
 plan = refl
 
+units : (section : Section) → list_all (has_its_unit section) (keys_of section) ≡ true
+unfolding keys_of samples_of
+units Root = refl
+units Artery = refl
+units (Signal i) = refl
+units (Link i) = refl
+units PlanRoot = refl
+units Plan = refl
+
+root : list_all is_limited_but_signal (keys_of Root) ≡ true
+unfolding keys_of samples_of toml_on_literals
+root = refl
+
+plan_root : list_all (is_limited PlanRoot) (keys_of PlanRoot) ≡ true
+unfolding keys_of samples_of toml_on_literals
+plan_root = refl
+
 wanted : (section : Section) → list_all has_words (keys_of section) ≡ true
 unfolding keys_of sized_words
 wanted Root = refl
@@ -75,4 +92,16 @@ wanted PlanRoot = refl
 wanted Plan = refl
 
 pub all_have_words : AllHaveWords
-all_have_words = record { kinds = kinds; reasons = reasons; wanted = wanted; typed = typed; artery = artery; signal = signal; link = link; plan = plan }
+all_have_words = record {
+  kinds = kinds;
+  reasons = reasons;
+  wanted = wanted;
+  typed = typed;
+  units = units;
+  root = root;
+  artery = artery;
+  signal = signal;
+  link = link;
+  plan_root = plan_root;
+  plan = plan;
+}

@@ -1,3 +1,6 @@
 mod Lines
 mod Seen
 pub mod HaveWords
+pub mod KeyTold
+pub mod Masked
+pub mod Paths

@@ -1,13 +1,18 @@
 -- Which key was meant by one that isn't known.
-use Rattle.std.specs.Prelude.{ℕ, ◌&&◌, ◌||◌, not, nat_eq, nat_le, List, length, Bool, Option}
+use Rattle.std.specs.Prelude.{ℕ, ◌&&◌, ◌||◌, not, nat_eq, nat_le, List, [], ◌∷◌, length, Bool, Option, None, Some, is_some, unwrap_or}
 use Rattle.std.specs.Str.{chars}
 use Rattle.std.specs.List.{find, list_all}
 use Rattle.strsim.specs.Edits.{levenshtein_row}
+use Rattle.toml.specs.Data.{Data}
 use Rattle.artery_model.specs.Limits.{is_text}
+use Rattle.artery_model.specs.declared.kind.Kind.{Kind}
+use Rattle.artery_model.specs.declared.kind.Kind.TheVariants.{UnknownKey}
 use Rattle.description_reader.specs.KeyTable.{Key, keys_of, is_in}
 use Rattle.description_reader.specs.Keys.{may_stand}
+use Rattle.description_reader.specs.Values.{keys_in}
 use Rattle.description_reader.specs.declared.place.Facts.{Facts}
 use Rattle.description_reader.specs.declared.place.Section.{Section}
+use Rattle.description_reader.specs.declared.place.Section.TheVariants.{Root, Artery, Signal, Link, PlanRoot, Plan}
 
 -- how many letters are to be changed, left out or put in
 abbrev pub distance : List ℕ → List ℕ → ℕ
@@ -39,3 +44,25 @@ is_meant facts section name k =
 -- the first of the nearest keys, where they are near
 unfoldable pub meant_key : Facts → Section → List ℕ → Option Key
 meant_key facts section name = find (is_meant facts section name) (keys_of section)
+
+-- ---- a key of another table
+-- the tables of the form that a table is one of, in the order in which they are read
+abbrev pub tables_beside : Section → List Section
+tables_beside PlanRoot = PlanRoot ∷ Plan ∷ []
+tables_beside Plan = PlanRoot ∷ Plan ∷ []
+tables_beside _ = Root ∷ Artery ∷ Signal 1 ∷ Link 1 ∷ []
+
+-- the first that has a key of this name in some file
+abbrev pub home_of : Section → List ℕ → Option Section
+home_of section name = find (λ s. is_some (named_key s name)) (tables_beside section)
+
+-- ---- a key as it stands in the file
+-- the first of a table that isn't known
+abbrev pub unknown_in : Facts → Section → Option Data → Option (List ℕ)
+unknown_in facts section None = None
+unknown_in facts section (Some d) = find (λ name. not (is_some (known_key facts section name))) (keys_in d)
+
+-- the path of a key that isn't known has a question mark where the key has other letters than a printed key may have
+abbrev pub key_meant : Kind → Facts → Section → Option Data → List ℕ → List ℕ
+key_meant UnknownKey facts section d key = unwrap_or (unknown_in facts section d) key
+key_meant kind facts section d key = key

@@ -1,8 +1,9 @@
 -- How a value is told, and what a table is called.
 use Rattle.std.specs.Prelude.{ℕ, ◌+◌, ◌==◌, ◌&&◌, ◌||◌, nat_lt, nat_le, List, [], ◌++◌, length, map, Bool, true, false, Option, None, Some, codes, if◌then◌else◌}
 use Rattle.std.specs.Fmt.{decimal, signed_decimal}
-use Rattle.std.specs.List.{flat_map}
+use Rattle.std.specs.List.{flat_map, list_all}
 use Rattle.toml.specs.Data.{Data, string, integer, float, boolean, datetime, array, table}
+use Rattle.description_reader.specs.Keys.{is_key_character}
 use Rattle.description_reader.specs.Values.{at_key, items_in, text_in}
 use Rattle.description_reader.specs.declared.place.Section.{Section}
 use Rattle.description_reader.specs.declared.place.Section.TheVariants.{Root, Artery, Signal, Link, PlanRoot, Plan}
@@ -54,6 +55,13 @@ listed ds = if nat_le (length ds) most_listed then flat_map (λ d. codes ", " ++
 unfoldable pub value_words : Data → List ℕ
 value_words d = item_words d ++ listed (items_in d)
 
+-- a key as it is typed: between quotes where it has other letters than those of a bare key, or is long
+abbrev pub is_bare : List ℕ → Bool
+is_bare key = nat_lt 0 (length key) && (nat_le (length key) most_told && list_all is_key_character key)
+
+unfoldable pub key_words : List ℕ → List ℕ
+key_words key = if is_bare key then key else quoted key
+
 -- ---- tables
 -- the name in a table
 abbrev pub name_in : Option Data → List ℕ
@@ -77,10 +85,16 @@ signal_words root i =
 unfoldable pub link_words : Data → ℕ → List ℕ
 link_words root i = codes "link " ++ (decimal i ++ (codes ", " ++ (called root i ++ (codes " to " ++ called root (i + 1)))))
 
+-- how a table is headed
+abbrev pub heading : Section → List ℕ
+heading Root = codes "the top of the file"
+heading PlanRoot = codes "the top of the file"
+heading Artery = codes "[artery]"
+heading Plan = codes "[plan]"
+heading (Signal i) = codes "[[signal]]"
+heading (Link i) = codes "[[link]]"
+
 abbrev pub section_words : Data → Section → List ℕ
-section_words root Root = codes "the top of the file"
-section_words root PlanRoot = codes "the top of the file"
-section_words root Artery = codes "[artery]"
-section_words root Plan = codes "[plan]"
 section_words root (Signal i) = signal_words root i
 section_words root (Link i) = link_words root i
+section_words root section = heading section

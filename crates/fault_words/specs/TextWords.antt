@@ -1,5 +1,5 @@
 -- The lines about bytes that are no document. The place and the reason that the reader of TOML gives are its own.
-use Rattle.std.specs.Prelude.{◌≡◌, ◌⊎◌, ℕ, ◌+◌, ◌≤◌, ◌==◌, ◌/◌, nat_le, List, [], ◌∷◌, ◌++◌, length, map, take, drop, fold, count_by, Bool, None, Some, IsUtf8, codes, if◌then◌else◌}
+use Rattle.std.specs.Prelude.{◌≡◌, ◌⊎◌, ℕ, ◌+◌, ◌≤◌, ◌==◌, ◌/◌, ◌||◌, nat_le, nat_lt, List, [], ◌∷◌, ◌++◌, length, map, take, drop, fold, count_by, Bool, true, false, None, Some, IsUtf8, codes, if◌then◌else◌}
 use Rattle.std.specs.Fmt.{decimal}
 use Rattle.std.specs.List.{before_first}
 use Rattle.std.specs.Str.Lossy.{utf8_valid_len}
@@ -43,24 +43,28 @@ line_behind bytes at = before_first is_feed (drop at bytes)
 abbrev pub most_line : ℕ
 most_line = 120
 
--- a tab or what ends a line of Windows is told as a blank
-unfoldable pub told_line : List ℕ → List ℕ
-told_line line =
-    if nat_le (length line) most_line then codes "this line: " ++ (map (plain 32) line ++ codes "\n") else codes "a line of " ++ (decimal (length line) ++ codes " bytes\n")
+-- a byte of a line: a tab or what ends a line of Windows is told as a blank, and of bytes that are no text all beyond ASCII as a question mark
+abbrev pub line_byte : Bool → ℕ → ℕ
+line_byte is_text b = if is_text || nat_lt b 128 then plain 32 b else 63
 
-unfoldable pub line_words : List ℕ → ℕ → List ℕ
-line_words bytes at = told_line (line_before bytes at ++ line_behind bytes at)
+unfoldable pub told_line : Bool → List ℕ → List ℕ
+told_line is_text line =
+    if nat_le (length line) most_line then codes "this line: " ++ (map (line_byte is_text) line ++ codes "\n")
+    else codes "a line of " ++ (decimal (length line) ++ codes " bytes\n")
 
-unfoldable pub place_lines : List ℕ → ℕ → List ℕ
-place_lines bytes at = position_line bytes at ++ line_words bytes at
+unfoldable pub line_words : Bool → List ℕ → ℕ → List ℕ
+line_words is_text bytes at = told_line is_text (line_before bytes at ++ line_behind bytes at)
+
+unfoldable pub place_lines : Bool → List ℕ → ℕ → List ℕ
+place_lines is_text bytes at = position_line bytes at ++ line_words is_text bytes at
 
 -- bytes that are no text from a place on
 unfoldable pub not_utf8_words : List ℕ → ℕ → List ℕ
-not_utf8_words bytes at = kind_line NotUtf8 ++ place_lines bytes at
+not_utf8_words bytes at = kind_line NotUtf8 ++ place_lines false bytes at
 
 -- a text that is no document, by a place in it and a reason
 unfoldable pub not_toml_words : List ℕ → ℕ → List ℕ → List ℕ
-not_toml_words bytes at reason = kind_line NotToml ++ (place_lines bytes at ++ (codes "the reader of TOML says: " ++ (reason ++ codes "\n")))
+not_toml_words bytes at reason = kind_line NotToml ++ (place_lines true bytes at ++ (codes "the reader of TOML says: " ++ (reason ++ codes "\n")))
 
 -- a place within the text, and a reason, which are those of the reader of TOML
 pub record IsNoToml (bytes lines : List ℕ) : Type 0 where

@@ -1,6 +1,7 @@
 -- What a key wants, by a word for each of its demands.
-use Rattle.std.specs.Prelude.{ℕ, ◌==◌, List, [], ◌++◌, ℤ, codes, if◌then◌else◌}
+use Rattle.std.specs.Prelude.{ℕ, ◌==◌, List, [], ◌++◌, ℤ, pos, int_lt, codes, if◌then◌else◌}
 use Rattle.std.specs.Fmt.{decimal, signed_decimal}
+use Rattle.artery_model.specs.Bounds.{least_parts, most_numerator, most_denominator}
 use Rattle.description_reader.specs.KeyTable.{Key}
 use Rattle.description_reader.specs.declared.demand.Demand.{Demand}
 use Rattle.description_reader.specs.declared.demand.Demand.TheVariants.{Anything, Table, Array, Length, Integer, Boolean, Text, Quantity, Number}
@@ -21,8 +22,12 @@ from_words least = codes ", from " ++ signed_decimal least
 unfoldable pub below_words : ℤ → List ℕ
 below_words parts = codes " to less than the " ++ (signed_decimal parts ++ codes " parts of the cycle")
 
+-- not where the number of parts is itself no such number, as in a file whose limits weren't looked at yet
+abbrev pub below_if_parts : ℤ → List ℕ
+below_if_parts parts = if int_lt parts (pos least_parts) then [] else below_words parts
+
 unfoldable pub parts_words : ℤ → ℤ → List ℕ
-parts_words parts least = from_words least ++ below_words parts
+parts_words parts least = from_words least ++ below_if_parts parts
 
 -- ---- the type
 unfoldable pub sized_words : ℕ → ℕ → List ℕ
@@ -84,6 +89,17 @@ range_words parts (BelowParts least) = parts_words parts least
 range_words parts (Within least most) = span_words least most
 range_words parts (Written least most) = span_words least most
 range_words parts demand = range_word demand
+
+-- how fine a number may be, which is told behind its unit
+unfoldable pub terms : List ℕ
+terms = codes ", in lowest terms at most " ++ (decimal most_numerator ++ (codes " over " ++ decimal most_denominator))
+
+abbrev pub terms_words : Demand → List ℕ
+terms_words (Within least most) = terms
+terms_words demand = []
+
+abbrev pub fineness : Key → List ℕ
+fineness k = terms_words k.ranges.value ++ terms_words k.ranges.item
 
 -- ---- a key, where the cycle has this many parts
 unfoldable pub wants : ℤ → Key → List ℕ

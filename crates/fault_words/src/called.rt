@@ -3,7 +3,7 @@
 ghost use Rattle.std.specs.{Prelude.{◌≡◌, ◌++◌, ◌<◌, [], Some, codes, OnOk, if◌then◌else◌}, Fmt.{decimal}};
 ghost use Rattle.toml.specs.View.{view};
 ghost use Rattle.description_reader.specs.Values.{text_in};
-ghost use Rattle.fault_words.specs.Shown.{plain_text, name_in, has_name, called, signal_words, link_words, section_words};
+ghost use Rattle.fault_words.specs.Shown.{plain_text, name_in, has_name, called, signal_words, link_words, heading, section_words};
 ghost use Rattle.fault_words.specs.Places.{table_of, section_number};
 ghost use Rattle.description_reader.specs.declared.place.Section.TheVariants.{Signal};
 
@@ -23,7 +23,8 @@ fn text_in(value: &Value) -> &str
     }
 }
 
-fn name_at(table: &Value) -> &str
+/// The name in a table, empty where it has none.
+pub fn name_at(table: &Value) -> &str
     ensures { result.now ≡ name_in (Some (view table.now)) }
 {
     match value_at(table, "name") {
@@ -104,16 +105,27 @@ fn push_link(out: &mut Vec<u8>, root: &Value, number: usize) -> Result<(), Memor
     push_called(out, root, number + 1)
 }
 
+/// How a table is headed.
+pub fn heading(section: Section) -> &'static str
+    ensures { result.now ≡ heading section }
+{
+    match section {
+        Section::Root | Section::PlanRoot => "the top of the file",
+        Section::Artery => "[artery]",
+        Section::Plan => "[plan]",
+        Section::Signal(_) => "[[signal]]",
+        Section::Link(_) => "[[link]]",
+    }
+}
+
 /// Writes what a table is called.
 pub fn push_section(out: &mut Vec<u8>, root: &Value, section: Section) -> Result<(), Memory>
     requires { section_number section < 10000000 }
     ensures { OnOk result (out.new.items ≡ out.old.items ++ section_words (view root.now) section) }
 {
     match section {
-        Section::Root | Section::PlanRoot => push_text(out, "the top of the file"),
-        Section::Artery => push_text(out, "[artery]"),
-        Section::Plan => push_text(out, "[plan]"),
         Section::Signal(number) => push_signal(out, root, number),
         Section::Link(number) => push_link(out, root, number),
+        _ => push_text(out, heading(section)),
     }
 }

@@ -1,15 +1,19 @@
 //! How many there are, and numbers beside a place.
 
-ghost use Rattle.std.specs.{Prelude.{◌≡◌, ◌++◌, OnOk, option_map}, Fmt.{decimal, signed_decimal}};
+ghost use Rattle.std.specs.{Prelude.{◌≡◌, ◌++◌, ◌-◌, OnOk, codes, map, option_map}, Fmt.{decimal, signed_decimal}};
 ghost use Rattle.toml.specs.View.{view};
-ghost use Rattle.description_reader.specs.{Quantity.{integer_in}, Values.{at_key}};
+ghost use Rattle.description_reader.specs.{Quantity.{integer_in}, Values.{at_key, items_in}};
 ghost use Rattle.fault_words.specs.FaultWords.{parts_at, parts_line, sum_line, number_lines, count_at, street_counts, list_count};
+ghost use Rattle.fault_words.specs.FaultWords.{first_named, twin_words, twin_line, links_words, links_line, links_if_missing};
+ghost use Rattle.fault_words.specs.{Places.{table_of}, Shown.{name_in}};
 ghost use Rattle.fault_words.specs.FaultWords.{planned, out_key, back_key, plan_counts, count_lines};
 
-use crate::place::Document;
+use crate::called::name_at;
+use crate::place::{Document, table_of};
 use crate::signed::{push_parts_number, push_signed};
 use artery_model::Kind;
-use description_reader::{Facts, items_at, value_at};
+use artery_model::bounds::LEAST_SIGNALS;
+use description_reader::{Facts, Section, items_at, value_at};
 use narrow_fraction::Memory;
 use quantity_text::{push_number, push_text};
 use toml::Value;
@@ -69,26 +73,133 @@ fn push_sum(out: &mut Vec<u8>, facts: Facts, table: Option<&Value>, key: &str) -
     push_parts_line(out, facts)
 }
 
-/// Writes the numbers that a fault of this kind is about.
-pub fn push_number_lines(
+fn push_sum_at(
     out: &mut Vec<u8>,
-    kind: Kind,
     facts: Facts,
-    table: Option<&Value>,
+    root: &Value,
+    section: Section,
     key: &str,
 ) -> Result<(), Memory>
-    ensures { OnOk result (out.new.items ≡ out.old.items ++ number_lines kind facts.parts (option_map (λ v. view v.now) table.entry) key.now) }
+    ensures { OnOk result (out.new.items ≡ out.old.items ++ sum_line facts.parts (table_of (view root.now) section) key.now) }
 {
-    match kind {
-        Kind::NoGreen => push_sum(out, facts, table, key),
-        _ => Ok(()),
+    push_sum(out, facts, table_of(root, section), key)
+}
+
+/// The number of the first signal with this name, counted from 1.
+fn first_named(tables: &[Value], name: &str) -> Option<usize>
+    ensures { result ≡ first_named name.now 1 (map view tables.now) }
+{
+    for (index, table) in tables.iter().enumerate() {
+        if name == name_at(table) {
+            return Some(index + 1);
+        }
     }
+    None
+}
+
+#[tactic(auto, unfolding(crate::specs::FaultWords::twin_words))]
+fn push_twin_words(out: &mut Vec<u8>, number: usize) -> Result<(), Memory>
+    ensures { OnOk result (out.new.items ≡ out.old.items ++ twin_words number) }
+{
+    push_text(out, "signal ")?;
+    push_number(out, number as u128)?;
+    push_text(out, " has this name\n")
+}
+
+fn push_twin(out: &mut Vec<u8>, number: Option<usize>) -> Result<(), Memory>
+    ensures { OnOk result (out.new.items ≡ out.old.items ++ twin_line number) }
+{
+    match number {
+        Some(found) => push_twin_words(out, found),
+        None => Ok(()),
+    }
+}
+
+fn name_of(table: Option<&Value>) -> &str
+    ensures { result.now ≡ name_in (option_map (λ v. view v.now) table.entry) }
+{
+    match table {
+        Some(found) => name_at(found),
+        None => "",
+    }
+}
+
+/// Writes which signal has the name of this one before it.
+fn push_twin_at(out: &mut Vec<u8>, root: &Value, section: Section) -> Result<(), Memory>
+    ensures { OnOk result (out.new.items ≡ out.old.items ++ twin_line (first_named (name_in (table_of (view root.now) section)) 1 (items_in (at_key (view root.now) (codes "signal"))))) }
+{
+    let name = name_of(table_of(root, section));
+    push_twin(out, first_named(items_at(root, "signal"), name))
 }
 
 fn count_at(table: &Value, key: &str) -> usize
     ensures { result ≡ count_at (view table.now) key.now }
 {
     items_at(table, key).len()
+}
+
+fn push_fewer(out: &mut Vec<u8>, signals: usize) -> Result<(), Memory>
+    ensures { OnOk result (out.new.items ≡ out.old.items ++ decimal (signals - 1)) }
+{
+    push_number(out, signals.saturating_sub(1) as u128)
+}
+
+#[tactic(auto, unfolding(crate::specs::FaultWords::links_words))]
+fn push_links_words(out: &mut Vec<u8>, signals: usize) -> Result<(), Memory>
+    ensures { OnOk result (out.new.items ≡ out.old.items ++ links_words signals) }
+{
+    push_text(out, "links wanted: ")?;
+    push_fewer(out, signals)?;
+    push_text(out, ", one fewer than the ")?;
+    push_number(out, signals as u128)?;
+    push_text(out, " signals\n")
+}
+
+/// Writes how many links a street with so many signals has.
+fn push_links(out: &mut Vec<u8>, signals: usize) -> Result<(), Memory>
+    ensures { OnOk result (out.new.items ≡ out.old.items ++ links_line signals) }
+{
+    if signals < LEAST_SIGNALS {
+        Ok(())
+    } else {
+        push_links_words(out, signals)
+    }
+}
+
+fn push_links_at(out: &mut Vec<u8>, root: &Value) -> Result<(), Memory>
+    ensures { OnOk result (out.new.items ≡ out.old.items ++ links_line (count_at (view root.now) (codes "signal"))) }
+{
+    push_links(out, count_at(root, "signal"))
+}
+
+fn push_links_if_missing(out: &mut Vec<u8>, root: &Value, key: &str) -> Result<(), Memory>
+    ensures { OnOk result (out.new.items ≡ out.old.items ++ links_if_missing key.now (count_at (view root.now) (codes "signal"))) }
+{
+    if key == "link" {
+        push_links_at(out, root)
+    } else {
+        Ok(())
+    }
+}
+
+/// Writes the numbers that a fault of this kind is about.
+pub fn push_number_lines(
+    out: &mut Vec<u8>,
+    kind: Kind,
+    facts: Facts,
+    root: &Value,
+    section: Section,
+    key: &str,
+) -> Result<(), Memory>
+    ensures { OnOk result (out.new.items ≡ out.old.items ++ number_lines kind facts.parts (view root.now) section key.now) }
+{
+    match kind {
+        Kind::NoGreen => push_sum_at(out, facts, root, section, key),
+        Kind::RepeatedName => push_twin_at(out, root, section),
+        Kind::CountMismatch => push_links_at(out, root),
+        Kind::Missing => push_links_if_missing(out, root, key),
+        _ => Ok(()),
+    }
 }
 
 fn push_count_at(out: &mut Vec<u8>, table: &Value, key: &str) -> Result<(), Memory>

@@ -8,7 +8,7 @@ ghost use Rattle.fault_words.specs.Sentences.{other_line};
 
 use crate::example::{Example, example_at};
 use crate::sentence::other_line;
-use crate::wants::push_wants;
+use crate::wants::{push_fineness, push_wants};
 use description_reader::{Entry, Facts, Section, When};
 use narrow_fraction::Memory;
 use quantity_text::push_text;
@@ -69,6 +69,7 @@ fn push_wants_line(
     push_text(out, "wanted is")?;
     push_wants(out, facts, entry)?;
     push_unit_of(out, section, entry.name)?;
+    push_fineness(out, entry)?;
     push_text(out, "\n")
 }
 

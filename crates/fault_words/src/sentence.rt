@@ -27,7 +27,7 @@ fn kind_line(kind: Kind) -> &'static str
         Kind::Missing => "this key is needed, and it isn't there\n",
         Kind::WrongType => "the value has another type than the key wants\n",
         Kind::BadNumber => {
-            "the text is no number: write digits, a decimal as \"49.5\" or a fraction as \"99/2\"\n"
+            "the text is no number of this form: 1 to 18 digits, or a decimal as \"49.5\" or a fraction as \"99/2\" with 1 to 18 digits on each side and no zero below\n"
         }
         Kind::OutOfRange => "the value is outside its limits\n",
         Kind::CountMismatch => "there has to be one link fewer than there are signals\n",

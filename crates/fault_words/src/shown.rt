@@ -1,9 +1,9 @@
 //! How a value is told, and what a table is called.
 
-ghost use Rattle.std.specs.{Prelude.{◌≡◌, ◌++◌, ◌==◌, map, codes, OnOk, if◌then◌else◌}, List.{flat_map}, Fmt.{decimal}};
+ghost use Rattle.std.specs.{Prelude.{◌≡◌, ◌++◌, ◌==◌, map, codes, OnOk, if◌then◌else◌}, List.{flat_map, list_all}, Fmt.{decimal}};
 ghost use Rattle.toml.specs.View.{view};
-ghost use Rattle.fault_words.specs.Shown.{plain, plain_text, quoted, truth, list_size, item_words, listed, value_words};
-ghost use Rattle.description_reader.specs.Values.{items_in};
+ghost use Rattle.fault_words.specs.Shown.{plain, plain_text, quoted, truth, list_size, item_words, listed, value_words, is_bare, key_words};
+ghost use Rattle.description_reader.specs.{Keys.{is_key_character}, Values.{items_in}};
 
 use crate::signed::push_signed;
 use narrow_fraction::Memory;
@@ -17,14 +17,14 @@ pub const MOST_TOLD: usize = 60;
 const MOST_LISTED: usize = 4;
 
 /// A byte, or the mark where it is a control character.
-fn plain(mark: u8, byte: u8) -> u8
+pub fn plain(mark: u8, byte: u8) -> u8
     ensures { result ≡ plain mark byte }
 {
     if byte < 32 || byte == 127 { mark } else { byte }
 }
 
 /// Writes a text with a mark in place of each control character.
-pub fn push_plain(out: &mut Vec<u8>, mark: u8, bytes: &[u8]) -> Result<(), Memory>
+fn push_plain(out: &mut Vec<u8>, mark: u8, bytes: &[u8]) -> Result<(), Memory>
     ensures { OnOk result (out.new.items ≡ out.old.items ++ map (plain mark) bytes.now) }
 {
     for byte in bytes {
@@ -64,6 +64,30 @@ fn push_quoted(out: &mut Vec<u8>, text: &str) -> Result<(), Memory>
         push_in_quotes(out, text)
     } else {
         push_text_size(out, text.len())
+    }
+}
+
+fn has_key_characters(bytes: &[u8]) -> bool
+    ensures { result ≡ list_all is_key_character bytes.now }
+{
+    bytes.iter().all(|byte| byte.is_ascii_alphanumeric() || *byte == b'_' || *byte == b'-')
+}
+
+fn is_bare(key: &str) -> bool
+    ensures { result ≡ is_bare key.now }
+{
+    0 < key.len() && key.len() <= MOST_TOLD && has_key_characters(key.as_bytes())
+}
+
+/// Writes a key, between quotes where it can't stand without them.
+#[tactic(auto, unfolding(crate::specs::Shown::key_words))]
+pub fn push_key(out: &mut Vec<u8>, key: &str) -> Result<(), Memory>
+    ensures { OnOk result (out.new.items ≡ out.old.items ++ key_words key.now) }
+{
+    if is_bare(key) {
+        push_text(out, key)
+    } else {
+        push_quoted(out, key)
     }
 }
 

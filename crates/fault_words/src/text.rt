@@ -2,12 +2,11 @@
 
 ghost use Rattle.std.specs.Prelude.{◌≡◌, ◌++◌, ◌+◌, ◌≤◌, ◌<◌, ◌^◌, map, fold, length, count_by, position, codes, OnOk, if◌then◌else◌};
 ghost use Rattle.std.specs.{Fmt.{decimal}, List.{before_first, position_or_len}};
-ghost use Rattle.fault_words.specs.Shown.{plain};
-ghost use Rattle.fault_words.specs.TextWords.{is_feed, next_column, last_line, position_of, position_line, told_line, line_words};
+ghost use Rattle.fault_words.specs.TextWords.{is_feed, next_column, last_line, position_of, position_line, line_byte, told_line, line_words};
 ghost use Rattle.fault_words.specs.TextWords.{place_lines, not_utf8_words, not_toml_words};
 
 use crate::sentence::push_kind;
-use crate::shown::push_plain;
+use crate::shown::plain;
 use artery_model::Kind;
 use narrow_fraction::Memory;
 use quantity_text::{push_number, push_text};
@@ -129,12 +128,32 @@ fn line_start(back: &[u8]) -> &[u8]
     &back[..line_size(back)]
 }
 
-fn push_line(out: &mut Vec<u8>, front: &[u8], back: &[u8]) -> Result<(), Memory>
-    ensures { OnOk result (out.new.items ≡ out.old.items ++ (codes "this line: " ++ (map (plain 32) (front.now ++ back.now) ++ codes "\n"))) }
+/// A byte of a line as it is told: of bytes that are no text all beyond ASCII as a question mark.
+fn line_byte(is_text: bool, byte: u8) -> u8
+    ensures { result ≡ line_byte is_text byte }
+{
+    if is_text || byte < 128 {
+        plain(b' ', byte)
+    } else {
+        b'?'
+    }
+}
+
+fn push_line_bytes(out: &mut Vec<u8>, is_text: bool, bytes: &[u8]) -> Result<(), Memory>
+    ensures { OnOk result (out.new.items ≡ out.old.items ++ map (line_byte is_text) bytes.now) }
+{
+    for byte in bytes {
+        out.push(line_byte(is_text, *byte))?;
+    }
+    Ok(())
+}
+
+fn push_line(out: &mut Vec<u8>, is_text: bool, front: &[u8], back: &[u8]) -> Result<(), Memory>
+    ensures { OnOk result (out.new.items ≡ out.old.items ++ (codes "this line: " ++ (map (line_byte is_text) (front.now ++ back.now) ++ codes "\n"))) }
 {
     push_text(out, "this line: ")?;
-    push_plain(out, b' ', front)?;
-    push_plain(out, b' ', back)?;
+    push_line_bytes(out, is_text, front)?;
+    push_line_bytes(out, is_text, back)?;
     push_text(out, "\n")
 }
 
@@ -148,12 +167,12 @@ fn push_line_size(out: &mut Vec<u8>, size: u128) -> Result<(), Memory>
 
 /// Writes a line, or how long it is.
 #[tactic(auto, unfolding(crate::specs::TextWords::told_line))]
-fn push_told_line(out: &mut Vec<u8>, front: &[u8], back: &[u8]) -> Result<(), Memory>
-    ensures { OnOk result (out.new.items ≡ out.old.items ++ told_line (front.now ++ back.now)) }
+fn push_told_line(out: &mut Vec<u8>, is_text: bool, front: &[u8], back: &[u8]) -> Result<(), Memory>
+    ensures { OnOk result (out.new.items ≡ out.old.items ++ told_line is_text (front.now ++ back.now)) }
 {
     let size = front.len() as u128 + back.len() as u128;
     if size <= MOST_LINE {
-        push_line(out, front, back)
+        push_line(out, is_text, front, back)
     } else {
         push_line_size(out, size)
     }
@@ -161,20 +180,25 @@ fn push_told_line(out: &mut Vec<u8>, front: &[u8], back: &[u8]) -> Result<(), Me
 
 /// Writes the line in which a place is.
 #[tactic(auto, unfolding(crate::specs::TextWords::line_words))]
-fn push_line_words(out: &mut Vec<u8>, bytes: &[u8], at: usize) -> Result<(), Memory>
+fn push_line_words(out: &mut Vec<u8>, is_text: bool, bytes: &[u8], at: usize) -> Result<(), Memory>
     requires { at ≤ length bytes.now }
-    ensures { OnOk result (out.new.items ≡ out.old.items ++ line_words bytes.now at) }
+    ensures { OnOk result (out.new.items ≡ out.old.items ++ line_words is_text bytes.now at) }
 {
-    push_told_line(out, line_end(&bytes[..at]), line_start(&bytes[at..]))
+    push_told_line(
+        out,
+        is_text,
+        line_end(&bytes[..at]),
+        line_start(&bytes[at..]),
+    )
 }
 
 #[tactic(auto, unfolding(crate::specs::TextWords::place_lines))]
-fn push_place_lines(out: &mut Vec<u8>, bytes: &[u8], at: usize) -> Result<(), Memory>
+fn push_place_lines(out: &mut Vec<u8>, is_text: bool, bytes: &[u8], at: usize) -> Result<(), Memory>
     requires { at ≤ length bytes.now }
-    ensures { OnOk result (out.new.items ≡ out.old.items ++ place_lines bytes.now at) }
+    ensures { OnOk result (out.new.items ≡ out.old.items ++ place_lines is_text bytes.now at) }
 {
     push_position(out, bytes, at)?;
-    push_line_words(out, bytes, at)
+    push_line_words(out, is_text, bytes, at)
 }
 
 /// Writes the lines about bytes that are no text from a place on.
@@ -184,7 +208,7 @@ pub fn push_not_utf8(out: &mut Vec<u8>, bytes: &[u8], at: usize) -> Result<(), M
     ensures { OnOk result (out.new.items ≡ out.old.items ++ not_utf8_words bytes.now at) }
 {
     push_kind(out, Kind::NotUtf8)?;
-    push_place_lines(out, bytes, at)
+    push_place_lines(out, false, bytes, at)
 }
 
 /// Writes the lines about a text that is no document, by a place in it and a reason.
@@ -194,7 +218,7 @@ pub fn push_not_toml(out: &mut Vec<u8>, bytes: &[u8], at: usize, reason: &str) -
     ensures { OnOk result (out.new.items ≡ out.old.items ++ not_toml_words bytes.now at reason.now) }
 {
     push_kind(out, Kind::NotToml)?;
-    push_place_lines(out, bytes, at)?;
+    push_place_lines(out, true, bytes, at)?;
     push_text(out, "the reader of TOML says: ")?;
     push_text(out, reason)?;
     push_text(out, "\n")

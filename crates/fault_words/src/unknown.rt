@@ -2,9 +2,12 @@
 
 ghost use Rattle.std.specs.{Prelude.{◌≡◌, ◌++◌, codes, OnOk, option_map}, List.{flat_map}};
 ghost use Rattle.description_reader.specs.KeyTable.{key_of, keys_of};
-ghost use Rattle.fault_words.specs.Near.{meant_key};
-ghost use Rattle.fault_words.specs.FaultWords.{meant_line, reason_line, key_here, keys_line, unknown_lines};
+ghost use Rattle.fault_words.specs.Shown.{heading};
+ghost use Rattle.fault_words.specs.Near.{meant_key, home_of};
+ghost use Rattle.fault_words.specs.FaultWords.{home_line, meant_line, reason_line, key_here, keys_line, unknown_lines};
 
+use crate::called::heading;
+use crate::home::home_of;
 use crate::near::{is_here, meant_key, named_key};
 use crate::sentence::absent_line;
 use description_reader::{Entry, Facts, Section, entries};
@@ -19,16 +22,39 @@ fn push_name_meant(out: &mut Vec<u8>, name: &str) -> Result<(), Memory>
     push_text(out, "\n")
 }
 
-fn push_meant(out: &mut Vec<u8>, meant: Option<&Entry>) -> Result<(), Memory>
-    ensures { OnOk result (out.new.items ≡ out.old.items ++ meant_line (option_map (λ e. key_of e.now) meant.entry)) }
+fn push_heading(out: &mut Vec<u8>, section: Section) -> Result<(), Memory>
+    ensures { OnOk result (out.new.items ≡ out.old.items ++ (codes "this key is one of " ++ (heading section ++ codes "\n"))) }
 {
-    match meant {
-        Some(entry) => push_name_meant(out, entry.name),
+    push_text(out, "this key is one of ")?;
+    push_text(out, heading(section))?;
+    push_text(out, "\n")
+}
+
+fn push_home(out: &mut Vec<u8>, home: Option<Section>) -> Result<(), Memory>
+    ensures { OnOk result (out.new.items ≡ out.old.items ++ home_line home) }
+{
+    match home {
+        Some(section) => push_heading(out, section),
         None => Ok(()),
     }
 }
 
-/// Writes why a key of other files is none of this one, or which key is near.
+/// Writes the key that was meant, or else the table that has one of this name.
+fn push_meant(
+    out: &mut Vec<u8>,
+    section: Section,
+    name: &str,
+    meant: Option<&Entry>,
+) -> Result<(), Memory>
+    ensures { OnOk result (out.new.items ≡ out.old.items ++ meant_line section name.now (option_map (λ e. key_of e.now) meant.entry)) }
+{
+    match meant {
+        Some(entry) => push_name_meant(out, entry.name),
+        None => push_home(out, home_of(section, name)),
+    }
+}
+
+/// Writes why a key of other files is none of this one, or which was meant.
 fn push_reason(
     out: &mut Vec<u8>,
     facts: Facts,
@@ -45,10 +71,10 @@ fn push_reason(
 }
 
 fn push_nearest(out: &mut Vec<u8>, facts: Facts, section: Section, name: &str) -> Result<(), Memory>
-    ensures { OnOk result (out.new.items ≡ out.old.items ++ meant_line (meant_key facts section name.now)) }
+    ensures { OnOk result (out.new.items ≡ out.old.items ++ meant_line section name.now (meant_key facts section name.now)) }
 {
     let meant = meant_key(*out.allocator(), facts, section, name)?;
-    push_meant(out, meant)
+    push_meant(out, section, name, meant)
 }
 
 fn push_key(out: &mut Vec<u8>, name: &str) -> Result<(), Memory>

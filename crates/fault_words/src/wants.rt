@@ -2,10 +2,11 @@
 
 ghost use Rattle.std.specs.{Prelude.{◌≡◌, ◌++◌, ◌==◌, [], codes, OnOk, if◌then◌else◌}, Fmt.{decimal}};
 ghost use Rattle.description_reader.specs.KeyTable.{key_of};
-ghost use Rattle.fault_words.specs.Wants.{size_words, span_words, from_words, below_words, parts_words, sized_words, type_word};
-ghost use Rattle.fault_words.specs.Wants.{type_words, range_word, each_words, many_words, range_words, wants};
+ghost use Rattle.fault_words.specs.Wants.{size_words, span_words, from_words, below_words, below_if_parts, parts_words, sized_words, type_word};
+ghost use Rattle.fault_words.specs.Wants.{type_words, range_word, each_words, many_words, range_words, terms, terms_words, fineness, wants};
 
 use crate::signed::{push_parts_number, push_signed};
+use artery_model::bounds::{LEAST_PARTS, MOST_DENOMINATOR, MOST_NUMERATOR};
 use description_reader::{Demand, Entry, Facts};
 use narrow_fraction::Memory;
 use quantity_text::{push_number, push_text};
@@ -55,12 +56,23 @@ fn push_below(out: &mut Vec<u8>, facts: Facts) -> Result<(), Memory>
     push_text(out, " parts of the cycle")
 }
 
+/// The same, where the number of parts is one that a cycle may have.
+fn push_below_if_parts(out: &mut Vec<u8>, facts: Facts) -> Result<(), Memory>
+    ensures { OnOk result (out.new.items ≡ out.old.items ++ below_if_parts facts.parts) }
+{
+    if facts.parts < i64::from(LEAST_PARTS) {
+        Ok(())
+    } else {
+        push_below(out, facts)
+    }
+}
+
 #[tactic(auto, unfolding(crate::specs::Wants::parts_words))]
 fn push_parts(out: &mut Vec<u8>, facts: Facts, least: i64) -> Result<(), Memory>
     ensures { OnOk result (out.new.items ≡ out.old.items ++ parts_words facts.parts least) }
 {
     push_from(out, least)?;
-    push_below(out, facts)
+    push_below_if_parts(out, facts)
 }
 
 #[tactic(auto, unfolding(crate::specs::Wants::sized_words))]
@@ -156,6 +168,34 @@ fn push_range(out: &mut Vec<u8>, facts: Facts, demand: Demand) -> Result<(), Mem
         Demand::Written(least, most) => push_span(out, least, most),
         _ => push_text(out, range_word(demand)),
     }
+}
+
+/// Writes how fine a number may be.
+#[tactic(auto, unfolding(crate::specs::Wants::terms))]
+fn push_terms(out: &mut Vec<u8>) -> Result<(), Memory>
+    ensures { OnOk result (out.new.items ≡ out.old.items ++ terms) }
+{
+    push_text(out, ", in lowest terms at most ")?;
+    push_number(out, MOST_NUMERATOR)?;
+    push_text(out, " over ")?;
+    push_number(out, MOST_DENOMINATOR)
+}
+
+fn push_terms_of(out: &mut Vec<u8>, demand: Demand) -> Result<(), Memory>
+    ensures { OnOk result (out.new.items ≡ out.old.items ++ terms_words demand) }
+{
+    match demand {
+        Demand::Within(_, _) => push_terms(out),
+        _ => Ok(()),
+    }
+}
+
+/// Writes how fine the numbers of a key may be, where that has a limit.
+pub fn push_fineness(out: &mut Vec<u8>, entry: &Entry) -> Result<(), Memory>
+    ensures { OnOk result (out.new.items ≡ out.old.items ++ fineness (key_of entry.now)) }
+{
+    push_terms_of(out, entry.ranges.value)?;
+    push_terms_of(out, entry.ranges.item)
 }
 
 /// Writes what a key wants, where the cycle has this many parts.

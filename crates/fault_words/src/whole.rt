@@ -6,16 +6,17 @@ ghost use Rattle.artery_model.specs.Faults.{fault_of};
 ghost use Rattle.description_reader.specs.KeyTable.{key_of};
 ghost use Rattle.fault_words.specs.Places.{section_number, section_at, key_at, item_at, table_of, value_of};
 ghost use Rattle.fault_words.specs.{Near.{known_key}, Shown.{value_words}};
-ghost use Rattle.fault_words.specs.FaultWords.{item_suffix, where_line, stands_line, key_lines, number_lines, place_words, fault_words};
+ghost use Rattle.fault_words.specs.FaultWords.{item_suffix, where_line, stands_line, key_lines, place_words, path_words, fault_words};
 ghost use Rattle.fault_words.specs.TextWords.{IsNoToml, IsTextExplained, IsExplained, Adds};
 
 use crate::called::push_section;
 use crate::counts::{push_counts, push_number_lines};
 use crate::key::push_known;
+use crate::meant::key_meant;
 use crate::near::known_key;
 use crate::place::{Document, item_at, key_at, section_at, table_of, value_of};
 use crate::sentence::push_kind;
-use crate::shown::push_value;
+use crate::shown::{push_key, push_value};
 use crate::text::{push_not_toml, push_not_utf8};
 use crate::unknown::push_unknown;
 use artery_model::{Kind, Refusal};
@@ -49,7 +50,7 @@ fn push_where(
     push_text(out, "at ")?;
     push_section(out, root, section)?;
     push_text(out, ": ")?;
-    push_text(out, key)?;
+    push_key(out, key)?;
     push_item_suffix(out, item)?;
     push_text(out, "\n")
 }
@@ -90,19 +91,6 @@ fn push_lines_of(out: &mut Vec<u8>, facts: Facts, section: Section, key: &str) -
     push_key_lines(out, facts, section, key, known_key(facts, section, key))
 }
 
-fn push_numbers_at(
-    out: &mut Vec<u8>,
-    root: &Value,
-    facts: Facts,
-    kind: Kind,
-    section: Section,
-    key: &str,
-) -> Result<(), Memory>
-    ensures { OnOk result (out.new.items ≡ out.old.items ++ number_lines kind facts.parts (table_of (view root.now) section) key.now) }
-{
-    push_number_lines(out, kind, facts, table_of(root, section), key)
-}
-
 /// Writes the lines about a key.
 fn push_key_lines(
     out: &mut Vec<u8>,
@@ -137,7 +125,24 @@ fn push_place_words(
     push_kind(out, kind)?;
     push_stands_at(out, root, section, key, item)?;
     push_lines_of(out, facts, section, key)?;
-    push_numbers_at(out, root, facts, kind, section, key)
+    push_number_lines(out, kind, facts, root, section, key)
+}
+
+/// Writes the lines about a fault at the place that a path names.
+fn push_path_words(
+    out: &mut Vec<u8>,
+    root: &Value,
+    facts: Facts,
+    kind: Kind,
+    section: Section,
+    key: &str,
+    item: usize,
+) -> Result<(), Memory>
+    requires { section_number section < 10000000 }
+    ensures { OnOk result (out.new.items ≡ out.old.items ++ path_words (view root.now) facts kind section key.now item) }
+{
+    let meant = key_meant(kind, facts, section, table_of(root, section), key);
+    push_place_words(out, root, facts, kind, section, meant, item)
 }
 
 /// Writes the lines about a refusal of a document that was read: where it is, what its kind means, what stands there, what is wanted or which
@@ -154,7 +159,7 @@ pub fn push_document_words(
     let facts = facts_of(root);
     let place = refusal.place.as_str();
     let section = section_at(document, place);
-    push_place_words(
+    push_path_words(
         out,
         root,
         facts,

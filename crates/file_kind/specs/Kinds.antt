@@ -11,6 +11,8 @@ use Rattle.plan_text.specs.SecondText.{second_line}
 use Rattle.plan_text.specs.Spelling.{head_line}
 use Rattle.file_kind.specs.declared.kind.FileKind.{FileKind}
 use Rattle.file_kind.specs.declared.kind.FileKind.TheVariants.{Timing, Certificate, LinkCertificate, Plan, Description}
+use Rattle.file_kind.specs.declared.kind.TextFormat.{TextFormat}
+use Rattle.file_kind.specs.declared.kind.TextFormat.TheVariants as format
 
 abbrev pub is_feed : ℕ → Bool
 is_feed b = b == 10
@@ -19,17 +21,26 @@ is_feed b = b == 10
 abbrev pub first_line : List ℕ → List ℕ
 first_line bytes = before_first is_feed bytes
 
--- the text that begins with this line
-abbrev pub text_of : List ℕ → Option FileKind
-text_of line =
-    if bytes_eq line head_line then Some Timing
-    else (if bytes_eq line certificate_line then Some Certificate
-    else (if bytes_eq line second_line then Some Certificate
-    else (if bytes_eq line links_line then Some LinkCertificate
+-- the format of the text that begins with this line
+abbrev pub format_of_line : List ℕ → Option TextFormat
+format_of_line line =
+    if bytes_eq line head_line then Some format.Timing
+    else (if bytes_eq line certificate_line then Some format.FirstCertificate
+    else (if bytes_eq line second_line then Some format.SecondCertificate
+    else (if bytes_eq line links_line then Some format.Links
     else None)))
 
+abbrev pub text_format : List ℕ → Option TextFormat
+text_format bytes = format_of_line (first_line bytes)
+
+abbrev pub format_kind : TextFormat → FileKind
+format_kind format.Timing = Timing
+format_kind format.FirstCertificate = Certificate
+format_kind format.SecondCertificate = Certificate
+format_kind format.Links = LinkCertificate
+
 abbrev pub text_kind : List ℕ → Option FileKind
-text_kind bytes = text_of (first_line bytes)
+text_kind bytes = option_map format_kind (text_format bytes)
 
 -- the document that has this root
 abbrev pub document_kind : Data → FileKind

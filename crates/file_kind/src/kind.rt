@@ -1,9 +1,10 @@
 //! What a file is.
 
-ghost use Rattle.std.specs.{Prelude.{◌≡◌, ◌≤◌, length, position, IfOk}, List.{position_or_len}};
+ghost use Rattle.std.specs.Prelude.{◌≡◌, IfOk};
 ghost use Rattle.toml.specs.View.{view};
-ghost use Rattle.file_kind.specs.Kinds.{is_feed, first_line, text_of, text_kind, document_kind, root_kind, root_of, kind_of};
+ghost use Rattle.file_kind.specs.Kinds.{first_line, format_of_line, text_format, format_kind, text_kind, document_kind, root_kind, root_of, kind_of};
 
+use crate::cut::before;
 use artery_model::Flaw;
 use description_reader::{read_root, value_at};
 use narrow_fraction::Memory;
@@ -24,42 +25,53 @@ pub enum FileKind {
     Description,
 }
 
-fn feed_at(bytes: &[u8]) -> Option<usize>
-    ensures { result ≡ position is_feed bytes.now }
-{
-    bytes.iter().position(|byte| *byte == b'\n')
-}
-
-/// The place of the first line feed, or the length where there is none.
-#[tactic(auto, using(quantity_text::proofs::Runs::place_or_len))]
-fn line_size(bytes: &[u8]) -> usize
-    ensures place { result ≡ position_or_len is_feed bytes.now }
-    ensures within { result ≤ length bytes.now }
-{
-    feed_at(bytes).unwrap_or(bytes.len())
+/// Which text begins with a line: the format of its first line.
+#[derive(Clone, Copy, Debug, PartialEq, Eq)]
+pub enum TextFormat {
+    Timing,
+    FirstCertificate,
+    SecondCertificate,
+    Links,
 }
 
 /// What stands before the first line feed, all where there is none.
-pub fn first_line(bytes: &[u8]) -> &[u8]
+pub(crate) fn first_line(bytes: &[u8]) -> &[u8]
     ensures { result.now ≡ first_line bytes.now }
 {
-    &bytes[..line_size(bytes)]
+    before(bytes, b'\n')
 }
 
-/// The text that begins with this line.
-fn text_of(line: &[u8]) -> Option<FileKind>
-    ensures { result ≡ text_of line.now }
+fn format_of_line(line: &[u8]) -> Option<TextFormat>
+    ensures { result ≡ format_of_line line.now }
 {
     if line == b"maxband-timing 1".as_slice() {
-        Some(FileKind::Timing)
+        Some(TextFormat::Timing)
     } else if line == b"maxband-certificate 1".as_slice() {
-        Some(FileKind::Certificate)
+        Some(TextFormat::FirstCertificate)
     } else if line == b"maxband-certificate 2".as_slice() {
-        Some(FileKind::Certificate)
+        Some(TextFormat::SecondCertificate)
     } else if line == b"maxband-links 1".as_slice() {
-        Some(FileKind::LinkCertificate)
+        Some(TextFormat::Links)
     } else {
         None
+    }
+}
+
+/// The format of the text that begins with the first line, none where that is the one of no text.
+pub fn text_format(bytes: &[u8]) -> Option<TextFormat>
+    ensures { result ≡ text_format bytes.now }
+{
+    format_of_line(first_line(bytes))
+}
+
+fn format_kind(format: TextFormat) -> FileKind
+    ensures { result ≡ format_kind format }
+{
+    match format {
+        TextFormat::Timing => FileKind::Timing,
+        TextFormat::FirstCertificate => FileKind::Certificate,
+        TextFormat::SecondCertificate => FileKind::Certificate,
+        TextFormat::Links => FileKind::LinkCertificate,
     }
 }
 
@@ -67,7 +79,10 @@ fn text_of(line: &[u8]) -> Option<FileKind>
 pub fn text_kind(bytes: &[u8]) -> Option<FileKind>
     ensures { result ≡ text_kind bytes.now }
 {
-    text_of(first_line(bytes))
+    match text_format(bytes) {
+        Some(format) => Some(format_kind(format)),
+        None => None,
+    }
 }
 
 fn document_kind(root: &Value) -> FileKind

@@ -1,7 +1,7 @@
 //! What bytes look like that are no text and no document of maxband.
 
 ghost use Rattle.std.specs.Prelude.{◌≡◌};
-ghost use Rattle.file_kind.specs.Looks.{begins, is_utf16, has_return, is_picture, is_table, look_of, look_line};
+ghost use Rattle.file_kind.specs.Looks.{begins, is_utf16, is_marked, has_return, is_picture, is_table, look_of, look_line};
 
 use crate::kind::first_line;
 
@@ -10,6 +10,8 @@ use crate::kind::first_line;
 pub enum Look {
     Empty,
     Utf16,
+    /// A text of maxband behind a byte order mark.
+    Marked,
     /// A text of maxband whose first line ends as on Windows.
     WindowsLines,
     /// A text of maxband of another kind or version.
@@ -29,6 +31,13 @@ fn is_utf16(bytes: &[u8]) -> bool
     ensures { result ≡ is_utf16 bytes.now }
 {
     begins(bytes, &[255, 254]) || begins(bytes, &[254, 255])
+}
+
+/// Whether a text of maxband stands behind a byte order mark.
+fn is_marked(bytes: &[u8]) -> bool
+    ensures { result ≡ is_marked bytes.now }
+{
+    begins(bytes, b"\xef\xbb\xbfmaxband-")
 }
 
 /// Whether the first line ends as on Windows.
@@ -63,6 +72,8 @@ pub fn looks_like(bytes: &[u8]) -> Look
         Look::Empty
     } else if is_utf16(bytes) {
         Look::Utf16
+    } else if is_marked(bytes) {
+        Look::Marked
     } else if begins(bytes, b"maxband-") {
         if has_return(bytes) {
             Look::WindowsLines
@@ -85,6 +96,9 @@ pub fn look_line(look: Look) -> &'static str
     match look {
         Look::Empty => "the file is empty\n",
         Look::Utf16 => "it looks like UTF-16, which some editors write: save it as UTF-8\n",
+        Look::Marked => {
+            "it looks like a text of maxband behind a byte order mark, as some editors write one: save it as UTF-8 without the mark, with line feeds alone\n"
+        }
         Look::WindowsLines => {
             "it looks like a text of maxband whose lines end as on Windows: a text has line feeds alone\n"
         }

@@ -1,5 +1,6 @@
 mod Loops
 mod Multiples
+mod Grids
 mod Tolds
 mod BoundLaws
 mod WarningLaws

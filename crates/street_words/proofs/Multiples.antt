@@ -29,7 +29,7 @@ first_short m k x y z h e l =
 pub one_above : (m k : ℕ) (x : ℚ) → 1 ≤ m → k ≡ lcm m x.den → 1 ≤ k
 one_above m k x h e = let one = lcm_above m x.den (omega (arith, h)) x.positive in omega (arith, one, e)
 
-not_most : (m k : ℕ) → (m ≤ k → ⊥) → k < m
+pub not_most : (m k : ℕ) → (m ≤ k → ⊥) → k < m
 not_most m k n = elim (cases_lt k m) [ inl h ↦ h | inr h ↦ absurd (n h) ]
 
 module _ (a : Street) where

@@ -3,7 +3,7 @@ use Rattle.std.proofs.Common.{◌≡◌, ℕ, zero, suc, pos, ◌+◌, ◌-◌, 
 use Rattle.std.proofs.Common.{true, false, not, ◌&&◌, ◌||◌, if◌then◌else◌, nat_lt, nat_eq, flat_map, refl, sym, ◌∙◌, ap, subst, arith, inl, inr}
 use Rattle.std.proofs.Common.{lit<}
 use Rattle.std.specs.Prelude.{◌⊎◌, ◌↔◌, Contains, IsTrue}
-use Rattle.std.specs.List.{range_with_len}
+use Rattle.std.specs.List.{filter, range_with_len}
 use Rattle.std.specs.Cmp.Lexicographic.{pointwise}
 use Rattle.std.proofs.lemmas.Bool.{ltb-true, lt-ltb, eqb-true, eq-eqb, and_parts, and_from, or_cases, or_left, or_right, not-true, not_from_false, true≢false}
 use Rattle.std.proofs.lemmas.List.Elements.{Contains-append_left, Contains-append_right, Contains-append_cases, Contains-push_cases}
@@ -18,8 +18,9 @@ use Rattle.progression.specs.declared.parts.Dir.TheVariants.{Outbound, Inbound}
 use Rattle.street_words.specs.Streets.{name_of}
 use Rattle.street_words.specs.Warnings.{least_travel, most_travel, fastest, slowest, most_ticks, plain_name, ticks_for}
 use Rattle.street_words.specs.Warnings.{may_starve, applies, warning_line, told, way_warnings, link_warnings, signal_warnings}
-use Rattle.street_words.specs.Warnings.{name_warnings, street_warnings, all_warnings}
-use Rattle.street_words.specs.Laws.{MayBeStarved, Rule, IsOf, WarningsSay}
+use Rattle.street_words.specs.Warnings.{name_warnings, street_warnings, all_warnings, warning_lines}
+use Rattle.street_words.specs.Laws.{MayBeStarved, Rule, IsOf, AreWarned, WarningsSay}
+use Rattle.street_words.proofs.Grids.{long_rule, rule_long}
 use Rattle.street_words.specs.declared.warning.Warning.{Warning}
 use Rattle.street_words.specs.declared.warning.Warning.TheVariants.{TakesLittle, TakesLong, TooFast, TooSlow, MostlyRed, AlikeNames, MayStarve, LongFractions}
 
@@ -192,7 +193,7 @@ module _ (a : Street) where
   rule_says (MostlyRed d i) = below_says (3 * a.head.parts) (4 * red_parts a d i)
   rule_says (AlikeNames i) = same_says (plain_name (name_of a i)) (plain_name (name_of a (i + 1)))
   rule_says MayStarve = starve_says
-  rule_says LongFractions = below_says most_ticks (ticks_for a (count a - 1))
+  rule_says LongFractions = let b = below_says most_ticks (ticks_for a (count a - 1)) in (λ t. long_rule a (b.0 t), λ r. b.1 (rule_long a r))
 
 -- ---- a line that stands or doesn't
 stands_if : (b : Bool) (line : List ℕ) → IsTrue b → (if b then line else []) ≡ line
@@ -211,5 +212,53 @@ silent_of : (a : Street) (w : Warning) → (Rule a w → ⊥) → told a w ≡ [
 unfolding told
 silent_of a w n = silent_if (applies a w) (warning_line a w) (λ t. n ((rule_says a w).0 t))
 
+-- ---- the lines of those whose rule holds
+module _ {A : Type 0} where
+  keeps_if : (b : Bool) (x : A) (xs : List A) (y : A) → Contains (if b then x ∷ xs else xs) y → ((x ≡ y) × IsTrue b) ⊎ Contains xs y
+  keeps_if true x xs y h = elim (cons_cases x xs y h) [ inl e ↦ inl (e, refl) | inr k ↦ inr k ]
+  keeps_if false x xs y h = inr h
+
+  kept_of : (p : A → Bool) (xs : List A) (y : A) → Contains (filter p xs) y → Contains xs y × IsTrue (p y)
+  kept_of p [] y h = none_in y h
+  kept_of p (x ∷ xs) y h = elim (keeps_if (p x) x (filter p xs) y h) [
+    | inl e ↦ (subst (λ z. Contains (x ∷ xs) z) e.0 (first_in x xs), subst (λ z. IsTrue (p z)) e.0 e.1)
+    | inr k ↦ let m = kept_of p xs y k in (Contains-append_right (x ∷ []) xs y m.0, m.1)
+  ]
+
+  first_if : (b : Bool) (x : A) (xs : List A) (y : A) → IsTrue b → x ≡ y → Contains (if b then x ∷ xs else xs) y
+  first_if true x xs y t e = subst (λ z. Contains (x ∷ xs) z) e (first_in x xs)
+  first_if false x xs y t e = absurd (true≢false (sym t))
+
+  later_if : (b : Bool) (x : A) (xs : List A) (y : A) → Contains xs y → Contains (if b then x ∷ xs else xs) y
+  later_if true x xs y h = Contains-append_right (x ∷ []) xs y h
+  later_if false x xs y h = h
+
+  of_kept : (p : A → Bool) (xs : List A) (y : A) → Contains xs y → IsTrue (p y) → Contains (filter p xs) y
+  of_kept p [] y h t = none_in y h
+  of_kept p (x ∷ xs) y h t = elim (cons_cases x xs y h) [
+    | inl e ↦ first_if (p x) x (filter p xs) y (subst (λ z. IsTrue (p z)) (sym e) t) e
+    | inr k ↦ later_if (p x) x (filter p xs) y (of_kept p xs y k t)
+  ]
+
+  texts_if : (b : Bool) (g : A → List ℕ) (x : A) (xs : List A) → flat_map g (if b then x ∷ xs else xs) ≡ (if b then g x else []) ++ flat_map g xs
+  texts_if true g x xs = refl
+  texts_if false g x xs = refl
+
+told_texts : (a : Street) (ws : List Warning) → flat_map (told a) ws ≡ flat_map (warning_line a) (filter (applies a) ws)
+unfolding told
+told_texts a [] = refl
+told_texts a (w ∷ ws) = ap (λ t. told a w ++ t) (told_texts a ws) ∙ sym (texts_if (applies a w) (warning_line a) w (filter (applies a) ws))
+
+warned : (a : Street) → AreWarned a (warning_lines a)
+unfolding warning_lines
+warned a = record {
+  warnings = filter (applies a) (all_warnings (count a));
+  just = λ w. (
+    λ h. let k = kept_of (applies a) (all_warnings (count a)) w h in (no_other a w k.0, (rule_says a w).0 k.1),
+    λ h. of_kept (applies a) (all_warnings (count a)) w (looked_at a w h.0) ((rule_says a w).1 h.1),
+  );
+  lines_are = told_texts a (all_warnings (count a));
+}
+
 pub warnings_say : WarningsSay
-warnings_say = record { looked_at = λ a w. (looked_at a w, no_other a w); stands = stands_of; silent = silent_of }
+warnings_say = record { looked_at = λ a w. (looked_at a w, no_other a w); stands = stands_of; silent = silent_of; lines = warned }

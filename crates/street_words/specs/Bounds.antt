@@ -4,7 +4,8 @@ use Rattle.std.specs.Fmt.{decimal}
 use Rattle.progression.specs.Street.{Street, count, red_parts}
 use Rattle.progression.specs.declared.parts.Dir.{Dir}
 use Rattle.progression.specs.declared.parts.Dir.TheVariants.{Outbound, Inbound}
-use Rattle.street_words.specs.Streets.{dir_word, name_of, green_parts}
+use Rattle.timing_words.specs.Ways.{dir_word}
+use Rattle.street_words.specs.Streets.{name_of, green_parts}
 
 -- the first of the first j + 1 signals at which the direction's red is greatest
 abbrev pub reddest : Street → Dir → ℕ → ℕ

@@ -6,7 +6,7 @@ use Rattle.progression.specs.Street.{Street}
 use Rattle.progression.specs.declared.parts.Units.{Units}
 use Rattle.progression.specs.declared.parts.Units.TheVariants.{Metric, English}
 use Rattle.quantity_text.specs.Decimal.{decimal_spelling}
-use Rattle.diagram_draw.specs.Captions.{tenths}
+use Rattle.timing_words.specs.Numbers.{tenths}
 
 abbrev pub cut_tenths : ℚ → List ℕ
 cut_tenths x = decimal_spelling x 1

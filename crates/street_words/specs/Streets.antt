@@ -10,15 +10,12 @@ use Rattle.progression.specs.declared.parts.Dir.{Dir}
 use Rattle.progression.specs.declared.parts.Dir.TheVariants.{Outbound, Inbound}
 use Rattle.quantity_text.specs.Exact.{exact_spelling}
 use Rattle.artery_model.specs.Bounds.{second_version}
+use Rattle.timing_words.specs.Ways.{dir_word}
 use Rattle.street_words.specs.Numbers.{span_text, parts_span, length_text}
 use Rattle.street_words.specs.Patterns.{turn_name, pattern_words}
 
 abbrev pub name_of : Street → ℕ → List ℕ
 name_of a i = (signal_of a i).name
-
-abbrev pub dir_word : Dir → List ℕ
-dir_word Outbound = codes "outbound"
-dir_word Inbound = codes "inbound"
 
 abbrev pub length_word : Units → List ℕ
 length_word Metric = codes "metres"

@@ -1,10 +1,9 @@
 -- What in a street looks like a slip of whoever typed it, each by a rule that is stated here, and the lines that say so.
-use Rattle.std.specs.Prelude.{◌≡◌, ℕ, zero, suc, pos, ◌+◌, ◌-◌, ◌*◌, ◌^◌, ◌==◌, ◌&&◌, ◌||◌, not, nat_lt, if◌then◌else◌, Bool, List, [], ◌∷◌, ◌++◌, map, codes}
+use Rattle.std.specs.Prelude.{◌≡◌, ℕ, zero, suc, pos, ◌+◌, ◌-◌, ◌*◌, ◌^◌, ◌==◌, ◌&&◌, ◌||◌, not, nat_eq, nat_lt, if◌then◌else◌, Bool, List, [], ◌∷◌, ◌++◌, map, codes}
 use Rattle.std.specs.List.{filter, flat_map, range_with_len}
 use Rattle.std.specs.Char.{to_ascii_lowercase}
 use Rattle.std.specs.Fmt.{decimal}
 use Rattle.std.specs.Cmp.Lexicographic.{pointwise}
-use Rattle.std.specs.Prelude.{nat_eq}
 use Rattle.std.specs.Ordering.{is_lt, is_eq}
 use Rattle.rational_theory.specs.Rational.{ℚ, whole}
 use Rattle.rational_theory.specs.Compare.{cmp_ℚ}
@@ -15,8 +14,10 @@ use Rattle.progression.specs.declared.parts.Units.{Units}
 use Rattle.progression.specs.declared.parts.Units.TheVariants.{Metric, English}
 use Rattle.progression.specs.declared.parts.Dir.{Dir}
 use Rattle.progression.specs.declared.parts.Dir.TheVariants.{Outbound, Inbound}
+use Rattle.artery_model.specs.Bounds.{most_numerator}
+use Rattle.timing_words.specs.Ways.{dir_word}
 use Rattle.street_words.specs.Numbers.{cut_tenths}
-use Rattle.street_words.specs.Streets.{name_of, dir_word, length_word, speed_word}
+use Rattle.street_words.specs.Streets.{name_of, length_word, speed_word}
 use Rattle.street_words.specs.declared.warning.Warning.{Warning}
 use Rattle.street_words.specs.declared.warning.Warning.TheVariants.{TakesLittle, TakesLong, TooFast, TooSlow, MostlyRed, AlikeNames, MayStarve, LongFractions}
 
@@ -75,6 +76,10 @@ are_alike a i = pointwise nat_eq (plain_name (name_of a i)) (plain_name (name_of
 abbrev pub may_starve : Street → Bool
 may_starve a = is_number a.head.ratio 1 && (not a.head.equal && (is_number a.head.least_out 0 || is_number a.head.least_in 0))
 
+-- no run at a limit of speed, in seconds, has a greater denominator: a distance takes 18/5 or 15/22 of itself over the speed
+abbrev pub most_run_denominator : ℕ
+most_run_denominator = 22 * most_numerator
+
 -- the least common multiple of a number and the denominators of a direction's runs at its two limits of speed, in seconds
 abbrev pub with_runs : Street → ℕ → Dir → ℕ → ℕ
 with_runs a m d i = lcm (lcm m (run_low a d i).den) (run_high a d i).den
@@ -112,8 +117,12 @@ length_question units = codes ": is its length in " ++ (length_word units ++ cod
 unfoldable pub speed_question : Units → List ℕ
 speed_question units = codes ": is it in " ++ (speed_word units ++ codes "?\n")
 
-unfoldable pub travel_line : Street → Dir → ℕ → List ℕ → List ℕ
-travel_line a d i limit = way_words i d ++ (codes " takes " ++ (cut_tenths (run_low a d i) ++ (codes " s at its greatest speed, " ++ (limit ++ length_question a.head.units))))
+-- on which side of which limit a time is
+unfoldable pub limit_words : List ℕ → ℕ → List ℕ
+limit_words side limit = side ++ (decimal limit ++ codes " s")
+
+unfoldable pub travel_line : Street → Dir → ℕ → List ℕ → ℕ → List ℕ
+travel_line a d i side limit = way_words i d ++ (codes " takes " ++ (cut_tenths (run_low a d i) ++ (codes " s at its greatest speed, " ++ (limit_words side limit ++ length_question a.head.units))))
 
 unfoldable pub fast_line : Street → Dir → ℕ → List ℕ
 fast_line a d i = way_words i d ++ (codes " has the greatest speed " ++ (cut_tenths (speed a d i).most ++ (codes ", above " ++ (decimal (fastest a.head.units) ++ speed_question a.head.units))))
@@ -133,12 +142,12 @@ alike_line a i = pair_words i ++ (codes " have names that differ in blanks and c
 abbrev pub starve_line : List ℕ
 starve_line = codes "warning: with ratio 1 the best bands may starve a direction; ratio = \"99/100\", least bands or equal bands keep it from that\n"
 
-abbrev pub fractions_line : List ℕ
-fractions_line = codes "warning: the times of travel at the limits of speed have no grid of up to 1048576 ticks a second; where solve stops wide, try narrow\n"
+unfoldable pub fractions_line : List ℕ
+fractions_line = codes "warning: the times of travel at the limits of speed have no grid of up to " ++ (decimal most_ticks ++ codes " ticks a second; where solve stops wide, try narrow\n")
 
 abbrev pub warning_line : Street → Warning → List ℕ
-warning_line a (TakesLittle d i) = travel_line a d i (codes "less than 3 s")
-warning_line a (TakesLong d i) = travel_line a d i (codes "more than 60 s")
+warning_line a (TakesLittle d i) = travel_line a d i (codes "less than ") least_travel
+warning_line a (TakesLong d i) = travel_line a d i (codes "more than ") most_travel
 warning_line a (TooFast d i) = fast_line a d i
 warning_line a (TooSlow d i) = slow_line a d i
 warning_line a (MostlyRed d i) = red_line a d i

@@ -5,10 +5,11 @@ ghost use Rattle.progression.specs.Street.{count};
 ghost use Rattle.street_words.specs.Bounds.{tightest, wider_words, bound_line, bound_lines};
 
 use crate::signals::green_parts;
-use crate::words::{dir_word, push_name};
+use crate::words::push_name;
 use artery_model::{Artery, Dir};
 use narrow_fraction::Memory;
 use quantity_text::{push_number, push_text};
+use timing_words::dir_word;
 
 /// The first signal at which a direction's green is least.
 fn tightest(artery: &Artery, dir: Dir) -> u32

@@ -3,19 +3,19 @@
 ghost use Rattle.std.specs.Prelude.{◌≡◌, ◌<◌, ◌≤◌, SomeIff};
 ghost use Rattle.rational_theory.specs.Gcd.{lcm};
 ghost use Rattle.progression.specs.Street.{count};
-ghost use Rattle.street_words.specs.Warnings.{most_ticks, with_runs, has_long_fractions};
+ghost use Rattle.street_words.specs.Warnings.{most_ticks, most_run_denominator, with_runs, has_long_fractions};
 
 use artery_model::{Artery, Dir};
 use narrow_fraction::{Frac, common_multiple};
 
 /// The most ticks a second of a short grid.
-const MOST_TICKS: u128 = 1 << 20;
+pub const MOST_TICKS: u128 = 1 << 20;
 
 /// The least common multiple of a number and a denominator, where it is short.
 fn with_denominator(ticks: u128, run: Frac) -> Option<u128>
     requires above { 1 ≤ ticks }
     requires short { ticks ≤ most_ticks }
-    requires den { run.den ≤ 2200000 }
+    requires den { run.den ≤ most_run_denominator }
     ensures { SomeIff result (lcm ticks run.den ≤ most_ticks) (lcm ticks run.den) }
 {
     match common_multiple(ticks, run.den().unsigned_abs()) {

@@ -8,7 +8,7 @@ pub fn law_bounds_say()
     ensures { BoundsSay }
 {}
 
-/// A warning's line stands exactly where its rule holds.
+/// The lines on warnings are those of just the warnings whose rule holds.
 #[tactic(auto, using(crate::proofs::WarningLaws::warnings_say))]
 pub fn law_warnings_say()
     ensures { WarningsSay }

@@ -6,7 +6,7 @@
 //! `specs/Warnings` the warnings, each with its rule and its sentence. Start with `push_street`, `push_bounds` and `push_warnings`.
 //!
 //! Laws (`specs/Laws`): `law_bounds_say`, no good timing has a wider band than the lines on bounds say, and they name the first signal with that
-//! green; `law_warnings_say`, each warning of each place is looked at and no other, and its line stands exactly where its rule holds.
+//! green; `law_warnings_say`, the lines on warnings are those of just the warnings of its places whose rule holds.
 #![tactic(auto)]
 
 mod bounds;
@@ -27,7 +27,6 @@ mod words;
 
 pub use bounds::push_bounds;
 pub use laws::{law_bounds_say, law_warnings_say};
-pub use numbers::{push_digit, push_tenths};
 pub use pattern::push_pattern_words;
 pub use street::push_street;
 pub use warning::Warning;

@@ -5,10 +5,11 @@ ghost use Rattle.progression.specs.Street.{count};
 ghost use Rattle.street_words.specs.Streets.{way_text, between_text, link_line};
 
 use crate::numbers::{push_length, push_span};
-use crate::words::{dir_word, push_name};
+use crate::words::{next_signal, push_name};
 use artery_model::{Artery, Dir};
 use narrow_fraction::Memory;
 use quantity_text::{push_number, push_text};
+use timing_words::dir_word;
 
 /// Writes the length and the times of travel of a direction.
 #[tactic(auto, unfolding(crate::specs::Streets::way_text))]
@@ -32,14 +33,12 @@ fn push_between(out: &mut Vec<u8>, artery: &Artery, link: u32) -> Result<(), Mem
     requires last { link < count artery.now }
     ensures { OnOk result (out.new.items ≡ out.old.items ++ between_text artery.now link) }
 {
-    // there are few signals, so that the next number is one
-    let _ = artery.count();
     push_text(out, "link ")?;
     push_number(out, u128::from(link))?;
     push_text(out, ", ")?;
     push_name(out, artery, link)?;
     push_text(out, " to ")?;
-    push_name(out, artery, link + 1)?;
+    push_name(out, artery, next_signal(artery, link))?;
     push_text(out, ": ")
 }
 

@@ -1,9 +1,10 @@
 //! Names that people read as one.
 
-ghost use Rattle.std.specs.Prelude.{◌≡◌, ◌+◌, ◌<◌, ◌≤◌, IfOk};
+ghost use Rattle.std.specs.Prelude.{◌≡◌, ◌<◌, ◌≤◌, IfOk};
 ghost use Rattle.progression.specs.Street.{count};
 ghost use Rattle.street_words.specs.Warnings.{plain_name, are_alike};
 
+use crate::words::next_signal;
 use artery_model::Artery;
 use narrow_fraction::Memory;
 use std::alloc::Global;
@@ -28,9 +29,7 @@ pub fn are_alike(alloc: Global, artery: &Artery, signal: u32) -> Result<bool, Me
     requires last { signal < count artery.now }
     ensures { IfOk result (λ alike. alike ≡ are_alike artery.now signal) }
 {
-    // there are few signals, so that the next number is one
-    let _ = artery.count();
     let name = plain_name(alloc, signal_name(artery, signal))?;
-    let next = plain_name(alloc, signal_name(artery, signal + 1))?;
+    let next = plain_name(alloc, signal_name(artery, next_signal(artery, signal)))?;
     Ok(name.as_slice() == next.as_slice())
 }

@@ -1,7 +1,6 @@
 //! Numbers with one decimal place.
 
-ghost use Rattle.std.specs.{Prelude.{◌≡◌, ◌≤◌, ◌^◌, ◌++◌, codes, OnOk, pos, ◌≤ℤ◌}, Fmt.{decimal}};
-ghost use Rattle.diagram_draw.specs.Captions.{tenths};
+ghost use Rattle.std.specs.{Prelude.{◌≡◌, ◌≤◌, ◌^◌, ◌++◌, OnOk, pos, ◌≤ℤ◌}};
 ghost use Rattle.artery_model.specs.{Bounds.{most_parts, most_distance, least_cycle, most_cycle}, Valid.{IsQuantity}};
 ghost use Rattle.street_words.specs.Numbers.{cut_tenths, span_text, parts_seconds, parts_span};
 ghost use Rattle.street_words.specs.Numbers.{other_length, between_lengths, after_lengths, length_text};
@@ -9,7 +8,8 @@ ghost use Rattle.street_words.specs.Numbers.{other_length, between_lengths, afte
 use artery_model::{Artery, Units};
 use narrow_fraction::{Frac, Memory};
 use quantity_text::{push_decimal, push_number, push_text};
-use timing_measures::{Rounded, quotient, round_to};
+use timing_measures::quotient;
+use timing_words::push_tenths;
 
 /// Writes a number, cut at the tenth.
 pub fn push_cut_tenths(out: &mut Vec<u8>, value: Frac) -> Result<(), Memory>
@@ -18,24 +18,6 @@ pub fn push_cut_tenths(out: &mut Vec<u8>, value: Frac) -> Result<(), Memory>
     ensures { OnOk result (out.new.items ≡ out.old.items ++ cut_tenths value) }
 {
     push_decimal(out, value, 1)
-}
-
-/// Writes a whole number and a digit behind the point.
-pub fn push_digit(out: &mut Vec<u8>, number: Rounded) -> Result<(), Memory>
-    ensures { OnOk result (out.new.items ≡ out.old.items ++ (decimal number.whole ++ (codes "." ++ decimal number.rest))) }
-{
-    push_number(out, number.whole)?;
-    push_text(out, ".")?;
-    push_number(out, number.rest as u128)
-}
-
-/// Writes a number, to the nearest tenth.
-pub fn push_tenths(out: &mut Vec<u8>, value: Frac) -> Result<(), Memory>
-    requires least { pos 0 ≤ℤ value.num }
-    requires denominator { value.den ≤ 2 ^ 120 }
-    ensures { OnOk result (out.new.items ≡ out.old.items ++ tenths value) }
-{
-    push_digit(out, round_to(value, 1))
 }
 
 /// Writes two numbers as a range.

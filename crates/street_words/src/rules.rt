@@ -13,16 +13,16 @@ use narrow_fraction::{Frac, Memory};
 use std::alloc::Global;
 
 /// The limits of the time of travel at the greatest speed, in seconds.
-const LEAST_TRAVEL: i64 = 3;
+pub const LEAST_TRAVEL: u32 = 3;
 
-const MOST_TRAVEL: i64 = 60;
+pub const MOST_TRAVEL: u32 = 60;
 
 fn takes_little(artery: &Artery, dir: Dir, link: u32) -> bool
     requires first { 1 ≤ link }
     requires last { link < count artery.now }
     ensures { result ≡ takes_little artery.now dir link }
 {
-    artery.run_low(dir, link) < Frac::whole(LEAST_TRAVEL)
+    artery.run_low(dir, link) < Frac::whole(i64::from(LEAST_TRAVEL))
 }
 
 fn takes_long(artery: &Artery, dir: Dir, link: u32) -> bool
@@ -30,7 +30,7 @@ fn takes_long(artery: &Artery, dir: Dir, link: u32) -> bool
     requires last { link < count artery.now }
     ensures { result ≡ takes_long artery.now dir link }
 {
-    Frac::whole(MOST_TRAVEL) < artery.run_low(dir, link)
+    Frac::whole(i64::from(MOST_TRAVEL)) < artery.run_low(dir, link)
 }
 
 /// The limits of a direction's speed.

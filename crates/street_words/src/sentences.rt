@@ -6,15 +6,17 @@ ghost use Rattle.street_words.specs.Numbers.{cut_tenths};
 ghost use Rattle.street_words.specs.Laws.{IsOf};
 ghost use Rattle.street_words.specs.Streets.{length_word, speed_word};
 ghost use Rattle.street_words.specs.Warnings.{fastest, slowest, way_words, signal_words, length_question, speed_question};
-ghost use Rattle.street_words.specs.Warnings.{travel_line, fast_line, slow_line, red_line, pair_words, alike_line, warning_line};
+ghost use Rattle.street_words.specs.Warnings.{limit_words, travel_line, fast_line, slow_line, red_line, pair_words, alike_line, fractions_line, warning_line};
 
+use crate::fractions::MOST_TICKS;
 use crate::numbers::push_cut_tenths;
-use crate::rules::{fastest, slowest, speeds};
+use crate::rules::{LEAST_TRAVEL, MOST_TRAVEL, fastest, slowest, speeds};
 use crate::warning::Warning;
-use crate::words::{dir_word, length_word, push_name, speed_word};
+use crate::words::{length_word, next_signal, push_name, speed_word};
 use artery_model::{Artery, Dir};
 use narrow_fraction::Memory;
 use quantity_text::{push_number, push_text};
+use timing_words::dir_word;
 
 #[tactic(auto, unfolding(crate::specs::Warnings::way_words))]
 fn push_way(out: &mut Vec<u8>, link: u32, dir: Dir) -> Result<(), Memory>
@@ -79,23 +81,34 @@ fn push_run(out: &mut Vec<u8>, artery: &Artery, dir: Dir, link: u32) -> Result<(
     push_cut_tenths(out, artery.run_low(dir, link))
 }
 
+/// Writes on which side of which limit a time is.
+#[tactic(auto, unfolding(crate::specs::Warnings::limit_words))]
+fn push_limit(out: &mut Vec<u8>, side: &str, limit: u32) -> Result<(), Memory>
+    ensures { OnOk result (out.new.items ≡ out.old.items ++ limit_words side.now limit) }
+{
+    push_text(out, side)?;
+    push_number(out, u128::from(limit))?;
+    push_text(out, " s")
+}
+
 #[tactic(auto, unfolding(crate::specs::Warnings::travel_line))]
 fn push_travel(
     out: &mut Vec<u8>,
     artery: &Artery,
     dir: Dir,
     link: u32,
-    limit: &str,
+    side: &str,
+    limit: u32,
 ) -> Result<(), Memory>
     requires first { 1 ≤ link }
     requires last { link < count artery.now }
-    ensures { OnOk result (out.new.items ≡ out.old.items ++ travel_line artery.now dir link limit.now) }
+    ensures { OnOk result (out.new.items ≡ out.old.items ++ travel_line artery.now dir link side.now limit) }
 {
     push_way(out, link, dir)?;
     push_text(out, " takes ")?;
     push_run(out, artery, dir, link)?;
     push_text(out, " s at its greatest speed, ")?;
-    push_text(out, limit)?;
+    push_limit(out, side, limit)?;
     push_length_question(out, artery)
 }
 
@@ -193,9 +206,7 @@ fn push_pair(out: &mut Vec<u8>, artery: &Artery, signal: u32) -> Result<(), Memo
     requires { signal < count artery.now }
     ensures { OnOk result (out.new.items ≡ out.old.items ++ pair_words signal) }
 {
-    // there are few signals, so that the next number is one
-    let _ = artery.count();
-    let next = signal + 1;
+    let next = next_signal(artery, signal);
     push_text(out, "warning: signals ")?;
     push_number(out, u128::from(signal))?;
     push_text(out, " and ")?;
@@ -214,14 +225,30 @@ fn push_alike(out: &mut Vec<u8>, artery: &Artery, signal: u32) -> Result<(), Mem
     push_text(out, "\n")
 }
 
+#[tactic(auto, unfolding(crate::specs::Warnings::fractions_line))]
+fn push_fractions(out: &mut Vec<u8>) -> Result<(), Memory>
+    ensures { OnOk result (out.new.items ≡ out.old.items ++ fractions_line) }
+{
+    push_text(
+        out,
+        "warning: the times of travel at the limits of speed have no grid of up to ",
+    )?;
+    push_number(out, MOST_TICKS)?;
+    push_text(out, " ticks a second; where solve stops wide, try narrow\n")
+}
+
 /// Writes the line of a warning.
 pub fn push_warning(out: &mut Vec<u8>, artery: &Artery, warning: Warning) -> Result<(), Memory>
     requires { IsOf artery.now warning }
     ensures { OnOk result (out.new.items ≡ out.old.items ++ warning_line artery.now warning) }
 {
     match warning {
-        Warning::TakesLittle { dir, link } => push_travel(out, artery, dir, link, "less than 3 s"),
-        Warning::TakesLong { dir, link } => push_travel(out, artery, dir, link, "more than 60 s"),
+        Warning::TakesLittle { dir, link } => {
+            push_travel(out, artery, dir, link, "less than ", LEAST_TRAVEL)
+        }
+        Warning::TakesLong { dir, link } => {
+            push_travel(out, artery, dir, link, "more than ", MOST_TRAVEL)
+        }
         Warning::TooFast { dir, link } => push_fast(out, artery, dir, link),
         Warning::TooSlow { dir, link } => push_slow(out, artery, dir, link),
         Warning::MostlyRed { dir, signal } => push_red(out, artery, dir, signal),
@@ -230,9 +257,6 @@ pub fn push_warning(out: &mut Vec<u8>, artery: &Artery, warning: Warning) -> Res
             out,
             "warning: with ratio 1 the best bands may starve a direction; ratio = \"99/100\", least bands or equal bands keep it from that\n",
         ),
-        Warning::LongFractions => push_text(
-            out,
-            "warning: the times of travel at the limits of speed have no grid of up to 1048576 ticks a second; where solve stops wide, try narrow\n",
-        ),
+        Warning::LongFractions => push_fractions(out),
     }
 }

@@ -30,7 +30,7 @@ fn push_links(out: &mut Vec<u8>, artery: &Artery) -> Result<(), Memory>
 
 /// Writes a street in words: its name, units, cycle and ratio, then a line of each signal with its times in seconds at the least cycle and
 /// at the greatest, below it the patterns of its left turns where it has any, and then a line of each link with its lengths and its times of
-/// travel from the greatest speed to the least. Numbers have one decimal place and are cut there. The error is want of memory.
+/// travel from the greatest speed to the least. Numbers are rounded to the nearest tenth. The error is want of memory.
 #[tactic(auto, unfolding(crate::specs::Streets::street_lines))]
 pub fn push_street(out: &mut Vec<u8>, artery: &Artery) -> Result<(), Memory>
     ensures { OnOk result (out.new.items ≡ out.old.items ++ street_lines artery.now) }

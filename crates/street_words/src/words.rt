@@ -1,22 +1,13 @@
-//! Words of directions and units, and what a signal is called.
+//! Words of units, and what a signal is called.
 
-ghost use Rattle.std.specs.Prelude.{◌≡◌, ◌≤◌, ◌++◌, OnOk};
+ghost use Rattle.std.specs.Prelude.{◌≡◌, ◌+◌, ◌<◌, ◌≤◌, ◌++◌, OnOk};
 ghost use Rattle.progression.specs.Street.{count};
-ghost use Rattle.street_words.specs.Streets.{name_of, dir_word, length_word, speed_word};
+ghost use Rattle.street_words.specs.Streets.{name_of, length_word, speed_word};
 
-use artery_model::{Artery, Dir, Units};
+use artery_model::{Artery, Units};
 use narrow_fraction::Memory;
 use quantity_text::push_text;
 use timing_measures::signal_name;
-
-pub fn dir_word(dir: Dir) -> &'static str
-    ensures { result.now ≡ dir_word dir }
-{
-    match dir {
-        Dir::Outbound => "outbound",
-        Dir::Inbound => "inbound",
-    }
-}
 
 pub fn length_word(units: Units) -> &'static str
     ensures { result.now ≡ length_word units }
@@ -34,6 +25,16 @@ pub fn speed_word(units: Units) -> &'static str
         Units::Metric => "km/h",
         Units::English => "miles an hour",
     }
+}
+
+/// The number of the next signal.
+pub fn next_signal(artery: &Artery, signal: u32) -> u32
+    requires { signal < count artery.now }
+    ensures { result ≡ signal + 1 }
+{
+    // there are few signals, so that the next number is one
+    let _ = artery.count();
+    signal + 1
 }
 
 /// Writes the name of a signal.

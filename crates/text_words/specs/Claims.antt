@@ -4,9 +4,9 @@ use Rattle.std.specs.Fmt.{decimal}
 use Rattle.rational_theory.specs.Rational.{ℚ}
 use Rattle.quantity_text.specs.Exact.{exact_spelling}
 use Rattle.quantity_text.specs.Decimal.{decimal_spelling}
-use Rattle.diagram_draw.specs.Captions.{seconds_text}
+use Rattle.timing_words.specs.Numbers.{seconds_text}
 use Rattle.progression.specs.TimingRecord.{TimingRecord}
-use Rattle.certificate_model.specs.Warrants.{Node, SplitAt, LeafOf, WarrantWith, Warrant}
+use Rattle.certificate_model.specs.Warrants.{Node, SplitAt, LeafOf, Warrant}
 use Rattle.certificate_model.specs.declared.certificate.Claim.{Claim}
 use Rattle.certificate_model.specs.declared.certificate.Claim.TheVariants.{Best, NoTiming, Stopped}
 use Rattle.link_proof.specs.LinkWarrants.{LinkWarrant}

@@ -1,26 +1,24 @@
--- What the grammar of a text wants at each line: by the first line which format it is, and in a certificate by the second and the fourth how it goes on.
-use Rattle.std.specs.Prelude.{ℕ, zero, suc, ◌-◌, ◌==◌, if◌then◌else◌, Bool, List, [], ◌∷◌, ◌++◌, length, slice_index_or, codes}
+-- What the grammar of a text wants at each line: by the first line which format it is, in a certificate by the second and the fourth how it goes on, and then by
+-- the lines of its tree so far.
+use Rattle.std.specs.Prelude.{ℕ, suc, ◌-◌, ◌==◌, if◌then◌else◌, Bool, true, false, List, [], ◌∷◌, ◌++◌, length, slice_index_or, count_by, Option, None, Some}
+use Rattle.std.specs.List.{position}
 use Rattle.certificate_model.specs.Words.{is_text}
-use Rattle.plan_text.specs.Spelling.{head_line}
-use Rattle.plan_text.specs.CertificateText.{certificate_line, best_line, none_line, open_line, value_key}
-use Rattle.plan_text.specs.SecondText.{second_line}
-use Rattle.link_proof.specs.LinkWarrants.{links_line}
-use Rattle.text_words.specs.Lines.{line_of_text, first_word}
-use Rattle.text_words.specs.declared.grammar.Format.{Format}
-use Rattle.text_words.specs.declared.grammar.Format.TheVariants.{TimingText, FirstText, SecondText, LinkText, NoText}
+use Rattle.plan_text.specs.CertificateText.{best_line, none_line, open_line, value_key}
+use Rattle.file_kind.specs.Kinds.{text_format}
+use Rattle.file_kind.specs.declared.kind.TextFormat.{TextFormat}
+use Rattle.file_kind.specs.declared.kind.TextFormat.TheVariants.{Timing, SecondCertificate, Links}
+use Rattle.text_words.specs.Lines.{from_line, line_of_text, first_word, is_blank}
+use Rattle.text_words.specs.Owed.{owed_after}
 use Rattle.text_words.specs.declared.grammar.Opening.{Opening}
 use Rattle.text_words.specs.declared.grammar.Opening.TheVariants.{Best, Nothing, OpenValue, OpenNone, Unknown}
-use Rattle.text_words.specs.declared.grammar.Wanted.{Wanted}
-use Rattle.text_words.specs.declared.grammar.Wanted.TheVariants as want
-
--- ---- the format, by the first line
-abbrev pub format_of_line : List ℕ → Format
-format_of_line l =
-    if is_text l head_line then TimingText
-    else (if is_text l certificate_line then FirstText else (if is_text l second_line then SecondText else (if is_text l links_line then LinkText else NoText)))
-
-abbrev pub format_of : List ℕ → Format
-format_of bytes = format_of_line (line_of_text bytes 1)
+use Rattle.text_words.specs.declared.walk.Owed.{Owed}
+use Rattle.text_words.specs.declared.walk.Owed.TheVariants as owed
+use Rattle.text_words.specs.declared.wants.Wanted.{Wanted}
+use Rattle.text_words.specs.declared.wants.Wanted.TheVariants as want
+use Rattle.text_words.specs.declared.wants.ClaimLine.TheVariants.{FirstLine, Verdict, Value, Bound, ValueOrNone}
+use Rattle.text_words.specs.declared.wants.NumberKey.TheVariants.{Grid, Unit, Red, RunOut, RunIn, First, Band, HalfOut, HalfIn}
+use Rattle.text_words.specs.declared.wants.TreeLine.{TreeLine}
+use Rattle.text_words.specs.declared.wants.TreeLine.TheVariants as tree
 
 -- ---- how a certificate begins: by its second line, and where that is open by the first word of the fourth
 abbrev pub open_of : List ℕ → Opening
@@ -33,40 +31,84 @@ opening_of bytes = let verdict = line_of_text bytes 2 in
 
 -- ---- the lines of a timing, and those of a link timing
 abbrev pub base_wants : List Wanted
-base_wants = want.Grid ∷ want.Unit ∷ want.Pattern ∷ want.Red ∷ want.RunOut ∷ want.RunIn ∷ want.First ∷ []
+base_wants = want.Numbers Grid ∷ want.Numbers Unit ∷ want.Pattern ∷ want.Numbers Red ∷ want.Numbers RunOut ∷ want.Numbers RunIn ∷ want.Numbers First ∷ []
 
-abbrev pub timing_wants : Format → List Wanted
-timing_wants LinkText = base_wants ++ want.HalfOut ∷ want.HalfIn ∷ []
-timing_wants _ = base_wants ++ want.Band ∷ []
+abbrev pub timing_wants : TextFormat → List Wanted
+timing_wants Links = base_wants ++ want.Numbers HalfOut ∷ want.Numbers HalfIn ∷ []
+timing_wants _ = base_wants ++ want.Numbers Band ∷ []
 
 -- ---- from the third line of a certificate on, up to its tree
-abbrev pub claim_wants : Format → Opening → List Wanted
-claim_wants f Best = want.Value ∷ timing_wants f
-claim_wants f OpenValue = want.Bound ∷ want.ValueOrNone ∷ timing_wants f
-claim_wants f OpenNone = want.Bound ∷ want.ValueOrNone ∷ []
+abbrev pub claim_wants : TextFormat → Opening → List Wanted
+claim_wants f Best = want.Claim Value ∷ timing_wants f
+claim_wants f OpenValue = want.Claim Bound ∷ want.Claim ValueOrNone ∷ timing_wants f
+claim_wants f OpenNone = want.Claim Bound ∷ want.Claim ValueOrNone ∷ []
 claim_wants f _ = []
 
 -- from the first line on, as long as one line wants one thing
-abbrev pub head_wants : Format → Opening → List Wanted
-head_wants NoText o = []
-head_wants TimingText o = want.FirstLine ∷ timing_wants TimingText
-head_wants f o = want.FirstLine ∷ want.Verdict ∷ claim_wants f o
+abbrev pub head_wants : TextFormat → Opening → List Wanted
+head_wants Timing o = want.Claim FirstLine ∷ timing_wants Timing
+head_wants f o = want.Claim FirstLine ∷ want.Claim Verdict ∷ claim_wants f o
 
--- the line that follows them, and all after it
-abbrev pub rest_wants : Format → ℕ → Wanted
-rest_wants NoText n = want.FirstLine
-rest_wants TimingText zero = want.End
-rest_wants TimingText (suc n) = want.Nothing
-rest_wants SecondText zero = want.Rows
-rest_wants SecondText (suc n) = want.Listed
-rest_wants FirstText zero = want.Tree
-rest_wants FirstText (suc n) = want.Node
-rest_wants LinkText zero = want.Tree
-rest_wants LinkText (suc n) = want.Node
+-- ---- what is owed after them, and what of it comes first
+abbrev pub first_owed : TextFormat → Owed
+first_owed Timing = owed.Trees 0 0
+first_owed SecondCertificate = owed.Rows
+first_owed _ = owed.Names 0
 
-abbrev pub wanted_in : Format → List Wanted → ℕ → Wanted
-wanted_in f head n = slice_index_or head n (rest_wants f (n - length head))
+-- a node, by how rows are named
+abbrev pub node_line : TextFormat → TreeLine
+node_line SecondCertificate = tree.ListedNode
+node_line _ = tree.Node
+
+-- a line of a leaf of which so many are owed
+abbrev pub weight_line : TextFormat → ℕ → TreeLine
+weight_line SecondCertificate n = if n == 1 then tree.ListedLast else tree.ListedWeight
+weight_line _ n = tree.Weight
+
+-- a name, or the line behind them
+abbrev pub name_line : ℕ → TreeLine
+name_line names = if names == 0 then tree.Root else tree.Name
+
+abbrev pub next_want : TextFormat → ℕ → Wanted
+next_want f trees = if trees == 0 then want.End else want.Tree (node_line f)
+
+abbrev pub trees_want : TextFormat → ℕ → ℕ → Wanted
+trees_want f lines trees = if lines == 0 then next_want f trees else want.Tree (weight_line f lines)
+
+abbrev pub owed_want : TextFormat → Owed → Wanted
+owed_want f owed.Rows = want.Tree tree.Rows
+owed_want f (owed.Names names) = want.Tree (name_line names)
+owed_want f (owed.Trees lines trees) = trees_want f lines trees
+owed_want f owed.Nothing = want.Nothing
+
+-- the line so many after them
+abbrev pub rest_wants : TextFormat → List ℕ → ℕ → Wanted
+rest_wants f rest n = owed_want f (owed_after rest (first_owed f) n)
+
+-- of a text of this format whose first lines want these
+abbrev pub wanted_in : List ℕ → TextFormat → List Wanted → ℕ → Wanted
+wanted_in bytes f head n = slice_index_or head n (rest_wants f (from_line bytes (length head)) (n - length head))
+
+abbrev pub wanted_as : List ℕ → Option TextFormat → ℕ → Wanted
+wanted_as bytes None n = want.Claim FirstLine
+wanted_as bytes (Some f) n = wanted_in bytes f (head_wants f (opening_of bytes)) n
 
 -- what is wanted at a line, counted from 1
 abbrev pub wanted_at : List ℕ → ℕ → Wanted
-wanted_at bytes line = let f = format_of bytes in wanted_in f (head_wants f (opening_of bytes)) (line - 1)
+wanted_at bytes line = wanted_as bytes (text_format bytes) (line - 1)
+
+-- ---- how many signals there are: as many as patterns
+abbrev pub is_pattern : Wanted → Bool
+is_pattern want.Pattern = true
+is_pattern w = false
+
+abbrev pub patterns_in : List ℕ → Option ℕ → ℕ
+patterns_in bytes None = 0
+patterns_in bytes (Some n) = count_by is_blank (line_of_text bytes (suc n))
+
+abbrev pub signals_as : List ℕ → Option TextFormat → ℕ
+signals_as bytes None = 0
+signals_as bytes (Some f) = patterns_in bytes (position is_pattern (head_wants f (opening_of bytes)))
+
+abbrev pub signals_in : List ℕ → ℕ
+signals_in bytes = signals_as bytes (text_format bytes)

@@ -1,4 +1,5 @@
 pub mod Lines
+pub mod Owed
 pub mod Grammar
 pub mod Faults
 pub mod Claims

@@ -1,66 +1,78 @@
 //! Lines of a text.
 
-ghost use Rattle.std.specs.{Prelude.{◌≡◌, ◌≤◌, ◌==◌, ◌++◌, OnOk, length, map, take}, List.{position, position_or_len, before_first, after_first}};
-ghost use Rattle.text_words.specs.Lines.{is_feed, line_of_text, first_word, visible, after_shown, shown_text};
+ghost use Rattle.std.specs.Prelude.{◌≡◌, ◌++◌, OnOk, map, take, count_by};
+ghost use Rattle.certificate_model.specs.Words.{is_text};
+ghost use Rattle.text_words.specs.Lines.{is_blank, from_line, line_of_text, first_word, last_word, visible, after_shown, shown_text};
 
+use file_kind::{after, before};
 use narrow_fraction::Memory;
 use quantity_text::{push_bytes, push_text};
+
+/// The line feed.
+pub(crate) const FEED: u8 = b'\n';
+
+/// What stands between two words.
+const BLANK: u8 = b' ';
 
 /// The most bytes of a line that are shown.
 const MOST_SHOWN: usize = 200;
 
-/// The first place of a byte.
-fn first_place(bytes: &[u8], at: u8) -> Option<usize>
-    ensures { result ≡ position (λ b. b == at) bytes.now }
+/// Whether a line is this text.
+pub(crate) fn is_text(line: &[u8], text: &[u8]) -> bool
+    ensures { result ≡ is_text line.now text.now }
 {
-    bytes.iter().position(|byte| *byte == at)
+    line == text
 }
 
-/// The first place of a byte, or the length where there is none.
-#[tactic(auto, using(quantity_text::proofs::Runs::place_or_len))]
-fn place_of(bytes: &[u8], at: u8) -> usize
-    ensures place { result ≡ position_or_len (λ b. b == at) bytes.now }
-    ensures within { result ≤ length bytes.now }
+fn is_blank(byte: u8) -> bool
+    ensures { result ≡ is_blank byte }
 {
-    first_place(bytes, at).unwrap_or(bytes.len())
+    byte == BLANK
+}
+
+/// How many blanks a line has: as many as words after the first.
+pub(crate) fn blanks(line: &[u8]) -> usize
+    ensures { result ≡ count_by is_blank line.now }
+{
+    line.iter().filter(|byte| is_blank(**byte)).count()
 }
 
 /// The first word of a line.
 pub(crate) fn first_word(line: &[u8]) -> &[u8]
     ensures { result.now ≡ first_word line.now }
 {
-    &line[..place_of(line, b' ')]
+    before(line, BLANK)
 }
 
-/// What follows the first line feed.
-fn after_feed(bytes: &[u8]) -> &[u8]
-    ensures { result.now ≡ after_first is_feed bytes.now }
+/// The last word of two or three.
+pub(crate) fn last_word(line: &[u8]) -> &[u8]
+    ensures { result.now ≡ last_word line.now }
 {
-    let place = place_of(bytes, b'\n');
-    if place < bytes.len() {
-        &bytes[place + 1..]
+    let second = after(line, BLANK);
+    if blanks(line) == 1 {
+        second
     } else {
-        &[]
+        after(second, BLANK)
     }
 }
 
-/// What stands before it.
-fn before_feed(bytes: &[u8]) -> &[u8]
-    ensures { result.now ≡ before_first is_feed bytes.now }
+/// What follows so many line feeds.
+pub(crate) fn from_line(bytes: &[u8], count: u64) -> &[u8]
+    ensures { result.now ≡ from_line bytes.now count }
 {
-    &bytes[..place_of(bytes, b'\n')]
+    let mut rest = bytes;
+    for passed in 0..count {
+        let _ = passed;
+        rest = after(rest, FEED);
+    }
+    rest
 }
 
 /// The line with this number, counted from 1, without its line feed; empty where there are fewer.
 pub(crate) fn line_of_text(bytes: &[u8], line: u64) -> &[u8]
     ensures { result.now ≡ line_of_text bytes.now line }
 {
-    let mut rest = bytes;
-    for passed in 0..line.saturating_sub(1) {
-        let _ = passed;
-        rest = after_feed(rest);
-    }
-    before_feed(rest)
+    before(from_line(bytes, line.saturating_sub(1)), FEED)
 }
 
 fn visible(byte: u8) -> u8

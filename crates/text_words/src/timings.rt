@@ -6,9 +6,8 @@ ghost use Rattle.text_words.specs.Claims.{signals_text, grid_line, width_text, b
 use artery_model::Dir;
 use narrow_fraction::Memory;
 use quantity_text::{push_number, push_text};
-use street_words::push_tenths;
 use time_space::Timing;
-use timing_measures::seconds;
+use timing_words::push_seconds;
 
 /// Writes how many signals there are.
 #[tactic(auto, unfolding(crate::specs::Claims::signals_text))]
@@ -52,7 +51,7 @@ fn push_width(out: &mut Vec<u8>, timing: &Timing, ticks: u128) -> Result<(), Mem
 {
     push_number(out, ticks)?;
     push_text(out, " ticks = ")?;
-    push_tenths(out, seconds(timing, ticks))?;
+    push_seconds(out, timing, ticks)?;
     push_text(out, " s")
 }
 

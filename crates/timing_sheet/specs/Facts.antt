@@ -5,8 +5,8 @@ use Rattle.progression.specs.TimingRecord.{TimingRecord, band}
 use Rattle.progression.specs.declared.parts.Dir.{Dir}
 use Rattle.progression.specs.declared.parts.Dir.TheVariants.{Outbound, Inbound}
 use Rattle.timing_measures.specs.Measures.{cycle_seconds}
-use Rattle.diagram_draw.specs.Captions.{tenths, seconds_text, percent_text}
-use Rattle.diagram_draw.specs.Ways.{has_band}
+use Rattle.timing_words.specs.Numbers.{tenths, seconds_text, percent_text}
+use Rattle.timing_words.specs.Ways.{has_band}
 
 unfoldable pub cycle_line : Street → TimingRecord → List ℕ
 cycle_line a t = codes "cycle " ++ (tenths (cycle_seconds a t) ++ codes " s\n")

@@ -1,4 +1,4 @@
 pub mod Moments
-pub mod Numbers
 pub mod Records
 pub mod Facts
+pub mod Laws

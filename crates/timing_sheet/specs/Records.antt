@@ -11,13 +11,12 @@ use Rattle.progression.specs.declared.parts.Units.TheVariants.{Metric, English}
 use Rattle.progression.specs.declared.parts.Dir.{Dir}
 use Rattle.progression.specs.declared.parts.Dir.TheVariants.{Outbound, Inbound}
 use Rattle.description_reader.specs.declared.measure.Reference.{Reference}
-use Rattle.timing_measures.specs.Measures.{link_speed}
-use Rattle.diagram_draw.specs.Captions.{tenths, seconds_text}
-use Rattle.diagram_draw.specs.Ways.{has_band}
+use Rattle.timing_measures.specs.Measures.{seconds, link_speed}
+use Rattle.timing_words.specs.Numbers.{tenths, seconds_text, moment_text}
+use Rattle.timing_words.specs.Ways.{has_band}
 use Rattle.street_words.specs.Patterns.{pattern_words}
 use Rattle.table_text.specs.Cells.{name_cell}
 use Rattle.timing_sheet.specs.Moments.{offset_ticks, first_ticks, last_ticks}
-use Rattle.timing_sheet.specs.Numbers.{moment_text}
 
 -- ---- the head
 unfoldable pub signal_heads : List ℕ
@@ -47,7 +46,7 @@ unfoldable pub name_fields : Street → TimingRecord → ℕ → List (List ℕ)
 name_fields a t i = decimal i ∷ name_cell (signal_of a i).name ∷ pattern_text a t i ∷ []
 
 unfoldable pub time_fields : Street → TimingRecord → Reference → ℕ → List (List ℕ)
-time_fields a t r i = moment_text a t (offset_ticks a t r i) ∷ parts_text t (signal_of a i).red ∷ []
+time_fields a t r i = moment_text a t (seconds t (offset_ticks a t r i)) ∷ parts_text t (signal_of a i).red ∷ []
 
 unfoldable pub turn_fields : Street → TimingRecord → ℕ → List (List ℕ)
 turn_fields a t i = parts_text t (left_against a Inbound i) ∷ parts_text t (left_against a Outbound i) ∷ []
@@ -57,7 +56,7 @@ green_fields a t i = green_text a t Outbound i ∷ green_text a t Inbound i ∷ 
 
 -- when a direction's band begins and ends there, empty where it has none
 unfoldable pub window_fields : Street → TimingRecord → Reference → Dir → ℕ → List (List ℕ)
-window_fields a t r d i = if has_band a t d then moment_text a t (first_ticks a t r d i) ∷ moment_text a t (last_ticks a t r d i) ∷ [] else [] ∷ [] ∷ []
+window_fields a t r d i = if has_band a t d then moment_text a t (seconds t (first_ticks a t r d i)) ∷ moment_text a t (seconds t (last_ticks a t r d i)) ∷ [] else [] ∷ [] ∷ []
 
 -- ---- fields of a link
 -- none where a run takes no time

@@ -2,19 +2,19 @@
 
 ghost use Rattle.std.specs.{Prelude.{◌≡◌, ◌<◌, ◌≤◌, ◌*◌, ◌^◌, ◌++◌, ◌∷◌, [], OnOk, length}, Fmt.{decimal}};
 ghost use Rattle.progression.specs.Street.{count};
-ghost use Rattle.diagram_draw.specs.Captions.{seconds_text};
-ghost use Rattle.timing_sheet.specs.{Numbers.{moment_text}, Records.{parts_text, pattern_text, green_text, speed_text}};
+ghost use Rattle.timing_measures.specs.Measures.{seconds};
+ghost use Rattle.timing_words.specs.Numbers.{seconds_text, moment_text};
+ghost use Rattle.timing_sheet.specs.{Records.{parts_text, pattern_text, green_text, speed_text}};
 
-use crate::numbers::{push_moment, push_seconds};
 use crate::pattern::push_pattern;
 use artery_model::{Artery, Dir};
 use narrow_fraction::Memory;
 use quantity_text::push_number;
 use std::alloc::Global;
-use street_words::push_tenths;
 use table_text::Record;
 use time_space::{Timing, cycle, red_ticks};
-use timing_measures::some_speed;
+use timing_measures::{seconds, some_speed};
+use timing_words::{push_moment, push_seconds, push_tenths};
 
 /// Adds an empty field.
 pub fn push_empty(record: &mut Record) -> Result<(), Memory>
@@ -68,10 +68,10 @@ pub fn push_moment_cell(
     ticks: u128,
 ) -> Result<(), Memory>
     requires { ticks < 2 ^ 92 }
-    ensures { OnOk result (record.new ≡ record.old ++ moment_text artery.now timing.now ticks ∷ []) }
+    ensures { OnOk result (record.new ≡ record.old ++ moment_text artery.now timing.now (seconds timing.now ticks) ∷ []) }
 {
     let mut cell = Vec::new(alloc);
-    push_moment(&mut cell, artery, timing, ticks)?;
+    push_moment(&mut cell, artery, timing, seconds(timing, ticks))?;
     record.push(cell.as_slice())
 }
 

@@ -4,14 +4,12 @@ ghost use Rattle.std.specs.Prelude.{◌≡◌, ◌++◌, OnOk, length};
 ghost use Rattle.progression.specs.Street.{count};
 ghost use Rattle.timing_sheet.specs.Facts.{band_name, cycle_line, width_line, no_band_line, band_line, facts_text};
 
-use crate::numbers::{push_percent, push_seconds};
-use crate::ways::has_band;
 use artery_model::{Artery, Dir};
 use narrow_fraction::Memory;
 use quantity_text::push_text;
-use street_words::push_tenths;
 use time_space::Timing;
 use timing_measures::cycle_seconds;
+use timing_words::{has_band, push_percent, push_seconds, push_tenths};
 
 /// Writes the line of the cycle.
 #[tactic(auto, unfolding(crate::specs::Facts::cycle_line))]

@@ -10,7 +10,6 @@ use crate::cells::{
     push_ticks, push_whole,
 };
 use crate::moments::{first_ticks, last_ticks, offset_ticks};
-use crate::ways::has_band;
 use artery_model::{Artery, Dir};
 use description_reader::Reference;
 use narrow_fraction::Memory;
@@ -18,6 +17,7 @@ use std::alloc::Global;
 use table_text::Record;
 use time_space::Timing;
 use timing_measures::signal_name;
+use timing_words::has_band;
 
 /// Adds the number of a signal, its name and its pattern.
 #[tactic(auto, unfolding(crate::specs::Records::name_fields))]

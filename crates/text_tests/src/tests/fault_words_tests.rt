@@ -13,7 +13,7 @@ const FLOAT: &str =
 const FLOAT_WORDS: &str = "at [artery]: ratio
 the value has another type than the key wants
 there stands a number with a point, without quotes
-wanted is a number, between quotes unless it is whole, from 0 to 100
+wanted is a number, between quotes unless it is whole, from 0 to 100, in lowest terms at most 100000 over 1000
 for example: ratio = \"0.8\"
 counted: signal 1, link 1
 ";
@@ -29,6 +29,20 @@ counted: offset 0, patterns 0, speed_out 0, speed_in 0
 ";
 
 const NO_TEXT: &[u8] = b"[artery]\nname = \"\xff\"\n";
+
+const NO_TEXT_WORDS: &str = "the bytes of the file are no UTF-8: save it as UTF-8
+at line 2, column 9
+this line: name = \"?\"
+";
+
+const STRANGE: &str = "[artery]\n\"\u{e9}gal\" = true\n";
+
+const STRANGE_WORDS: &str = "at [artery]: \"\u{e9}gal\"
+this key isn't known here
+there stands true
+the keys here are name units parts cycle ratio
+counted: signal 0, link 0
+";
 
 fn refusal(alloc: Global, kind: Kind, place: &str) -> Result<Refusal, Memory> {
     Ok(Refusal {
@@ -76,9 +90,13 @@ fn a_key_that_is_near(rt: HostRuntime) {
 #[test]
 fn bytes_that_are_no_text(rt: HostRuntime) {
     let out = told(rt.alloc(), NO_TEXT, Kind::NotUtf8, "file").unwrap_or(Vec::new(rt.alloc()));
-    assert!(rt;
-        out.as_slice().starts_with(
-            b"the bytes of the file are no UTF-8: save it as UTF-8\nat line 2, column 9\n"
-        )
-    );
+    assert_eq!(rt; out.as_slice(), NO_TEXT_WORDS.as_bytes());
+}
+
+#[test]
+fn a_key_that_its_path_cannot_show(rt: HostRuntime) {
+    let out = told(rt.alloc(), STRANGE.as_bytes(), Kind::UnknownKey, "artery.?").unwrap_or(Vec::new(
+        rt.alloc(),
+    ));
+    assert_eq!(rt; out.as_slice(), STRANGE_WORDS.as_bytes());
 }

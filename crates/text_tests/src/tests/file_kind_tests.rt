@@ -13,12 +13,16 @@ static KINDS: [(&str, FileKind); 7] = [
     ("", FileKind::Description),
 ];
 
-static LOOKS: [(&[u8], Look); 6] = [
+static LOOKS: [(&[u8], Look); 10] = [
     (b"", Look::Empty),
     (b"\xff\xfem\0", Look::Utf16),
     (b"maxband-timing 1\r\n", Look::WindowsLines),
+    (b"\xef\xbb\xbfmaxband-timing 1\n", Look::Marked),
+    (b"\xef\xbb\xbf[artery]", Look::Other),
     (b"<svg xmlns=", Look::Picture),
     (b"cycle,verdict,weighted", Look::Table),
+    (b"change,place,", Look::Table),
+    (b"signal,name,", Look::Table),
     (b"[artery]", Look::Other),
 ];
 

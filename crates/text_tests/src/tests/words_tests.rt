@@ -235,19 +235,19 @@ fn bad_lines(rt: HostRuntime) -> Result<(), Fail> {
     let words = bad_words(rt.alloc(), text, bad_timing(rt.alloc(), text)?)?;
     assert_eq!(rt;
         words.as_str(),
-        "line 3 is: unit 1\na number is outside its range or not in its one spelling: no sign +, no zero in front, fractions in lowest terms\nwanted: `unit N`, the ticks of a part of the cycle: a whole number of at least 2\n"
+        "line 3 is: unit 1\na number is outside its range or not in its one spelling: no sign +, no zero in front, fractions in lowest terms\nwanted: `unit N`, the ticks of a part of the cycle: a whole number of at least 2 and below 2^80 (2 to the 80th)\n"
     );
     let text = "maxband-certificate 1\nverdict open\nbound 1\nvalue 1\ngrid 2\nunits 2\n";
     let words = bad_words(rt.alloc(), text, bad_certificate(rt.alloc(), text)?)?;
     assert_eq!(rt;
         words.as_str(),
-        "line 6 is: units 2\nits words, or how many they are, are not those of this place; one space stands between two words\nwanted: `unit N`, the ticks of a part of the cycle: a whole number of at least 2\n"
+        "line 6 is: units 2\nits words, or how many they are, are not those of this place; one space stands between two words\nwanted: `unit N`, the ticks of a part of the cycle: a whole number of at least 2 and below 2^80 (2 to the 80th)\n"
     );
     let text = "maxband-certificate 2\nverdict none\nrow 1\n";
     let words = bad_words(rt.alloc(), text, bad_certificate(rt.alloc(), text)?)?;
     assert_eq!(rt;
         words.as_str(),
-        "line 3 is: row 1\nits words, or how many they are, are not those of this place; one space stands between two words\nwanted: `rows N`, how many names of rows follow\n"
+        "line 3 is: row 1\nits words, or how many they are, are not those of this place; one space stands between two words\nwanted: `rows N`, how many names of rows follow: a whole number of at least 0 and below 2^64 (2 to the 64th)\n"
     );
     Ok(())
 }

@@ -1,7 +1,7 @@
 use Rattle.std.proofs.Common.{◌++◌, ◌∙◌, flat_map, arith}
 use Rattle.std.specs.List.{range_with_len}
 use Rattle.timing_sheet.specs.Records.{record_text}
-use Rattle.diagram_draw.proofs.Chains.{ends_up}
+use Rattle.timing_sheet.proofs.Ends.{ends_at}
 use Rattle.quantity_text.proofs.Pushed.{one_more}
 use Rattle.timing_measures.proofs.Pieces.{piece_next}
 use Rattle.timing_sheet.proofs.table.push_records.Goals as goal
@@ -15,4 +15,4 @@ pub returns : goal.returns
 returns c =
     let f = record_text c.args.artery.now c.args.timing.now c.args.reference in
     c.loop-signal.invariant.1
-    ∙ ends_up (λ n. c.args.out.now.items ++ flat_map f (range_with_len 1 n)) _ _ _ c.loop-signal.auto.signal-end c.loop-signal-test.false c.count-signal-end.ensures.value
+    ∙ ends_at (λ n. c.args.out.now.items ++ flat_map f (range_with_len 1 n)) _ _ _ c.loop-signal.auto.signal-end c.loop-signal-test.false c.count-signal-end.ensures.value

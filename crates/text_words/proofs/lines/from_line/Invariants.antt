@@ -1,6 +1,6 @@
 use Rattle.std.proofs.Common.{◌≡◌}
 use Rattle.text_words.specs.Lines.{from_line}
-use Rattle.text_words.proofs.lines.line_of_text.Given as goal
+use Rattle.text_words.proofs.lines.from_line.Given as goal
 
 -- so many lines are behind it
 abbrev pub invariant-loop-passed : goal.invariant-loop-passed

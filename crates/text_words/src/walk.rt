@@ -1,0 +1,138 @@
+//! What a text still owes, line by line.
+
+ghost use Rattle.std.specs.Prelude.{◌≡◌, ◌≤◌, ◌<◌, ◌+◌, ◌^◌, ◌-◌};
+ghost use Rattle.plan_text.specs.Numbers.{number};
+ghost use Rattle.text_words.specs.Owed.{lines_after, after_node, next_tree, in_trees, in_names, after_line, owed_after, trees_of};
+
+use crate::lines::{FEED, first_word, is_text, last_word};
+use file_kind::{after, before};
+use plan_text::is_numeral;
+use time_space::LIMIT;
+
+/// What a text still owes.
+#[derive(Clone, Copy, Debug, PartialEq, Eq)]
+pub enum Owed {
+    /// The line `rows N`, and all that follows it.
+    Rows,
+    /// So many names of rows, the line `tree`, and all that follows it.
+    Names(u128),
+    /// So many lines of a leaf, so many trees, and the line `end`.
+    Trees { lines: u128, trees: u128 },
+    /// Nothing.
+    Nothing,
+}
+
+/// The number below the limit that a word spells.
+fn number(word: &[u8]) -> Option<u128>
+    ensures { result ≡ number word.now }
+{
+    if !is_numeral(word) {
+        return None;
+    }
+    let Ok(text) = std::str::from_utf8(word) else {
+        return None;
+    };
+    match text.parse::<u128>() {
+        Ok(number) if number < LIMIT => Some(number),
+        _ => None,
+    }
+}
+
+/// The number that the line `rows N`, or the first one of a leaf, ends with.
+fn lines_after(line: &[u8]) -> u128
+    ensures { result ≡ lines_after line.now }
+{
+    match number(last_word(line)) {
+        Some(number) => number,
+        None => 0,
+    }
+}
+
+/// What is owed after the first line of a node, beside so many other trees.
+fn after_node(line: &[u8], others: u128) -> Owed
+    requires { others + 2 < 2 ^ 128 }
+    ensures owed { result ≡ after_node line.now others }
+    ensures few { trees_of result ≤ others + 2 }
+{
+    if is_text(first_word(line), b"split") {
+        Owed::Trees {
+            lines: 0,
+            trees: others + 2,
+        }
+    } else {
+        Owed::Trees {
+            lines: lines_after(line),
+            trees: others,
+        }
+    }
+}
+
+/// What is owed after a line that no leaf owes.
+fn next_tree(line: &[u8], trees: u128) -> Owed
+    requires { trees + 1 < 2 ^ 128 }
+    ensures owed { result ≡ next_tree line.now trees }
+    ensures few { trees_of result ≤ trees + 1 }
+{
+    if trees == 0 {
+        Owed::Nothing
+    } else {
+        after_node(line, trees - 1)
+    }
+}
+
+/// What is owed after a line of the tree.
+fn in_trees(line: &[u8], lines: u128, trees: u128) -> Owed
+    requires { trees + 1 < 2 ^ 128 }
+    ensures owed { result ≡ in_trees line.now lines trees }
+    ensures few { trees_of result ≤ trees + 1 }
+{
+    if lines == 0 {
+        next_tree(line, trees)
+    } else {
+        Owed::Trees {
+            lines: lines - 1,
+            trees,
+        }
+    }
+}
+
+/// What is owed after a name, or after the line `tree`.
+fn in_names(names: u128) -> Owed
+    ensures owed { result ≡ in_names names }
+    ensures few { trees_of result ≤ 1 }
+{
+    if names == 0 {
+        Owed::Trees { lines: 0, trees: 1 }
+    } else {
+        Owed::Names(names - 1)
+    }
+}
+
+/// What is owed after one line more.
+fn after_line(line: &[u8], owed: Owed) -> Owed
+    requires { trees_of owed + 1 < 2 ^ 128 }
+    ensures owed { result ≡ after_line line.now owed }
+    ensures few { trees_of result ≤ trees_of owed + 1 }
+{
+    match owed {
+        Owed::Rows => Owed::Names(lines_after(line)),
+        Owed::Names(names) => in_names(names),
+        Owed::Trees { lines, trees } => in_trees(line, lines, trees),
+        Owed::Nothing => Owed::Nothing,
+    }
+}
+
+/// What is owed after so many lines.
+pub(crate) fn owed_after(bytes: &[u8], start: Owed, count: u64) -> Owed
+    requires { trees_of start ≤ 1 }
+    ensures { result ≡ owed_after bytes.now start count }
+{
+    let mut rest = bytes;
+    let mut owed = start;
+    for passed in 0..count {
+        let _ = passed;
+        owed = after_line(before(rest, FEED), owed);
+        rest = after(rest, FEED);
+    }
+    owed
+}
