@@ -20,4 +20,5 @@ pub mod Statuses
 pub mod Helping
 pub mod LimitsSay
 pub mod WholeSay
+pub mod ExplainSay
 pub mod Explained

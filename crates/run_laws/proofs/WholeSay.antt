@@ -1,5 +1,7 @@
 -- What the statuses of `whole` say of the model.
-use Rattle.std.proofs.Common.{◌≡◌, ℕ, List, [], ◌∷◌, Ok, refl, sym, ◌∙◌, ap, subst}
+use Rattle.std.proofs.Common.{◌≡◌, ℕ, List, [], ◌∷◌, Ok, refl, sym, ◌∙◌, ap, subst, lit<}
+use Rattle.std.specs.Prelude.{Contains}
+use Rattle.std.proofs.lemmas.List.Elements.{Contains-append_left, Contains-append_right}
 use Rattle.outer_edge.specs.Held.{HoldsExactly}
 use Rattle.outer_edge.specs.Taken.{Appends}
 use Rattle.rational_theory.specs.Rational.{ℚ, ◌+ℚ◌, ◌-ℚ◌, ◌≤ℚ◌}
@@ -14,6 +16,8 @@ use Rattle.certificate_checker.specs.Laws.{RefusedIsNotAccepted}
 use Rattle.plan_text.specs.Reading.{timing_of}
 use Rattle.second_plan.specs.declared.answer.PlanEnd.{PlanEnd}
 use Rattle.whole_offsets.specs.Steady.{IsSteady}
+use Rattle.whole_plan.specs.Cycles.{tried_cycles}
+use Rattle.run_inputs.specs.Cycles.{seconds_of, AreSpelled}
 use Rattle.run_inputs.specs.Reading.{Reads}
 use Rattle.run_inputs.specs.declared.reader.Reader.TheVariants.{Description, Certificate}
 use Rattle.run_inputs.specs.Status.{number_of}
@@ -48,17 +52,31 @@ module _ (a : Street) (w : Warrant) (named lines text : List ℕ) (r : IsWhole a
       subst (λ t. IsSteady a start r.plan.seconds r.plan.offsets.items t) (sym r.answer.timing_is)
       (subst (λ o. IsSteady a start r.plan.seconds o.items r.answer.plan.timing) (sym r.answer.offsets_are) set)
 
+  tried : Contains (tried_cycles a w.timing named) r.plan.seconds
+  tried =
+      let k = r.plan.seconds in
+      let c = r.answer.chosen in
+      subst (λ ks. Contains ks k) (sym c.cycles_are) (Contains-append_right c.before (k ∷ c.after) k (Contains-append_left (k ∷ []) c.after k (0, lit< tt, refl)))
+
   -- what is found, and put
-  whole_put : (before now : Outside) (artery certificate plan : List ℕ) → Reads Description (before.holds artery) a → Reads Certificate (before.holds certificate) w
-      → HoldsExactly (now.holds plan) text → Appends before.taken now.taken lines → PutsWhole before now artery certificate plan
-  whole_put before now artery certificate plan description certified held told = record {
+  whole_put : (before now : Outside) (artery certificate plan : List ℕ) (cycles : List (List ℕ)) → Reads Description (before.holds artery) a
+      → Reads Certificate (before.holds certificate) w → AreSpelled seconds_of cycles named
+      → HoldsExactly (now.holds plan) text → Appends before.taken now.taken lines → PutsWhole before now artery certificate plan cycles
+  whole_put before now artery certificate plan cycles description certified spelled held told = record {
     street = a;
     warrant = w;
+    named = named;
+    claim = r.claim;
+    given = r.start;
     start = start;
     made = r.plan;
     description = description;
     text = certified;
-    accepted = r.basis.accepted;
+    spelled = spelled;
+    basis = r.basis;
+    widest = r.answer;
+    tried = tried;
+    started = r.answer.chosen.set.start;
     cycle_is = whole_cycle_told a start r.plan.timing r.plan.seconds r.plan.offsets.items r.basis.valid r.good steady;
     offsets_are = whole_offset_told a start r.plan.timing r.plan.seconds r.plan.offsets.items r.basis.valid r.good steady;
     good = r.good;
@@ -71,12 +89,12 @@ module _ (a : Street) (w : Warrant) (named lines text : List ℕ) (r : IsWhole a
   }
 
 module _ (before now : Outside) (artery certificate plan : List ℕ) (cycles : List (List ℕ)) where
-  puts_whole : Completes before now (ask.whole artery certificate plan cycles) cause.Done → PutsWhole before now artery certificate plan
+  puts_whole : Completes before now (ask.whole artery certificate plan cycles) cause.Done → PutsWhole before now artery certificate plan cycles
   puts_whole h =
       let f = verdict_found before.holds before.reads now.reads (ask.whole artery certificate plan cycles) cause.Done h.0 h.1 tt h.2 in
       let found = f.finds.finds.2 in
       let held = is_put before now plan found.0 h.0 h.1 f.bytes f.put_is found.1 h.3 in
-      whole_put f.values.0 f.values.1.0 f.finds.finds.0 h.0 found.0 found.2 before now artery certificate plan f.read.0 f.read.1.0 held.0 h.3.written
+      whole_put f.values.0 f.values.1.0 f.finds.finds.0 h.0 found.0 found.2 before now artery certificate plan cycles f.read.0 f.read.1.0 f.finds.finds.1 held.0 h.3.written
 
   whole_four : RefusedIsNotAccepted → (c : Cause) → number_of c ≡ 4 → Found before now (ask.whole artery certificate plan cycles) c → SaysUnbound before now artery certificate c
   whole_four apart (cause.Rejected r) e k =

@@ -13,6 +13,9 @@ asked u names output settings = question (Some (request u names output settings)
 abbrev pub hold : List ℕ → List ℕ → Question
 hold artery timing = asked usage.Hold (artery ∷ timing ∷ []) None unsaid
 
+abbrev pub explain : List ℕ → Question
+explain file = asked usage.Explain (file ∷ []) None unsaid
+
 abbrev pub check : List ℕ → List ℕ → Question
 check artery certificate = asked usage.Check (artery ∷ certificate ∷ []) None unsaid
 

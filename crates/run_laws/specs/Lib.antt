@@ -5,3 +5,4 @@ pub mod StopLaws
 pub mod EndLaws
 pub mod LimitLaws
 pub mod WholeLaws
+pub mod ExplainLaws

@@ -42,8 +42,9 @@ pub fn law_round_from_says()
 }
 
 /// A law over the definitions: after status 0 of `whole` the file that it put holds the text of a timing whose cycle and offsets, which are
-/// printed, are whole seconds. It is good on the described artery, no good timing is better by more than the printed loss, no runs within
-/// the limits and no firsts are better with its cycle, patterns, offsets and grid, and no move of its offsets is. After 4 the certificate is
+/// printed, are whole seconds. It is good on the described artery, and the widest plan over the cycles that the words and the street's limits
+/// leave to be tried; no good timing is better by more than the printed loss, no runs within the limits and no firsts are better with its
+/// cycle, patterns, offsets and grid, and no move of its offsets is. After 4 the certificate is
 /// accepted neither for the artery nor for the widened one, and after 10 there is no plan, for this reason; no file changed.
 pub fn law_whole_says()
     ensures { WholeSays }

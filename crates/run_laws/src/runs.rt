@@ -1,7 +1,7 @@
-//! The laws of answers, of faults, and of what the statuses of the commands that search and check say.
+//! The laws of answers, of faults, and of what the statuses of the commands that search, check and explain say.
 
 ghost use Rattle.run_laws.specs.Laws.{OneAnswer, RefusalsKeepFiles, PutIsAccepted, PutLinksAreAccepted, FaultsAreTold, SolveSays, LinksSay};
-ghost use Rattle.run_laws.specs.Laws.{HelpSays, HoldSays, CheckSays, CheckLinksSays, RenewSays};
+ghost use Rattle.run_laws.specs.{Laws.{HelpSays, HoldSays, CheckSays, CheckLinksSays, RenewSays}, ExplainLaws.{ExplainSays}};
 
 /// A law over the definitions: what the files hold, and the words, leave one answer, its cause, its lines and what it puts, so that
 /// each status but those of a verdict, of a fault and of want of memory comes exactly by its cause.
@@ -95,6 +95,16 @@ pub fn law_check_links_says()
     ensures { CheckLinksSays }
 {
     link_proof::law_link_accepted_or_refused();
+}
+
+/// A law over the definitions: after status 0 of `explain` the file is read as one of its kind; of a description the street's lines were
+/// written, those on its bounds, which no good timing's band exceeds, and the lines of just the warnings whose rule holds. After 3 the
+/// other commands refuse the file with the line that was written first. No file changed.
+pub fn law_explain_says()
+    ensures { ExplainSays }
+{
+    street_words::law_bounds_say();
+    street_words::law_warnings_say();
 }
 
 /// A law over the definitions: after status 0 of `renew` the file that it put holds the second text of the certificate that it read.
