@@ -186,6 +186,8 @@ def free(street):
     """Else: a grid of a thousand ticks a part and second, or of as many as the runs ask for that no tick would have, and the limits on it."""
     shared = THOUSAND
     for it in links_of(street):
+        if street.parts * shared >= TICKS:
+            break
         if math.ceil(street.fast[it] * street.parts * THOUSAND) > math.floor(street.slow[it] * street.parts * THOUSAND):
             shared = math.lcm(shared, street.fast[it].denominator)
     grid = street.parts * shared
