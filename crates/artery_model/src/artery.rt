@@ -1,7 +1,7 @@
 //! The type of a valid artery: how one is made, and its numbers in the model's words.
 
 ghost use Rattle.std.specs.Prelude.{◌≡◌, ◌+◌, ◌<◌, ◌≤◌, pos, ◌≤ℤ◌, unsigned_abs, IfSome, IfOk};
-ghost use Rattle.progression.specs.Street.{Street, count, signal_of, link_of, left_against, red_parts, clearance, allows, distance, speed, change_given, least_band};
+ghost use Rattle.progression.specs.Street.{Street, count, signal_of, link_of, left_against, red_parts, clearance, allows, distance, speed, change_given, least_band, HasLink, HasSignal};
 ghost use Rattle.progression.specs.{Speeds.{run_low, run_high, change}, Columns.{pattern_shift}};
 ghost use Rattle.artery_model.specs.Bounds.{least_signals, most_signals, least_parts, most_parts, least_distance, most_distance, least_cycle, most_cycle, least_ratio, most_ratio, first_version, second_version, least_share, most_share};
 ghost use Rattle.artery_model.specs.{Faults.{Judges}, Limits.{artery_fault}};
@@ -142,8 +142,7 @@ impl Artery {
     }
 
     fn signal(&self, signal: u32) -> &Signal
-        requires first { 1 ≤ signal }
-        requires last { signal ≤ count self.now }
+        requires signal { HasSignal self.now signal }
         ensures value { result.now ≡ signal_of self.now signal }
         ensures valid { IsSignal self.now.head.parts result.now }
         ensures parts { self.now.head.parts ≤ most_parts }
@@ -152,8 +151,7 @@ impl Artery {
     }
 
     fn link(&self, link: u32) -> &Link
-        requires first { 1 ≤ link }
-        requires last { link < count self.now }
+        requires link { HasLink self.now link }
         ensures value { result.now ≡ link_of self.now link }
         ensures valid { IsLink result.now }
     {
@@ -163,8 +161,7 @@ impl Artery {
     /// The left turn against a direction, in parts: it goes while the direction's through traffic
     /// waits.
     pub fn left_against(&self, dir: Dir, signal: u32) -> u32
-        requires first { 1 ≤ signal }
-        requires last { signal ≤ count self.now }
+        requires signal { HasSignal self.now signal }
         ensures value { result ≡ left_against self.now dir signal }
         ensures small { result < most_parts }
     {
@@ -177,8 +174,7 @@ impl Artery {
 
     /// The common red, in parts, in which both directions are red, whatever the pattern.
     pub fn common_red(&self, signal: u32) -> u32
-        requires first { 1 ≤ signal }
-        requires last { signal ≤ count self.now }
+        requires signal { HasSignal self.now signal }
         ensures value { result ≡ (signal_of self.now signal).red }
         ensures small { result < most_parts }
     {
@@ -188,8 +184,7 @@ impl Artery {
     /// A direction's red, in parts: the common red and the left turn against the direction. It is
     /// at least 1, and some green is left.
     pub fn red(&self, dir: Dir, signal: u32) -> u32
-        requires first { 1 ≤ signal }
-        requires last { signal ≤ count self.now }
+        requires signal { HasSignal self.now signal }
         ensures value { result ≡ red_parts self.now dir signal }
         ensures least { 1 ≤ result }
         ensures green { result < self.now.head.parts }
@@ -204,8 +199,7 @@ impl Artery {
 
     /// The outbound red, in parts: the common red and the inbound left turn.
     pub fn red_out(&self, signal: u32) -> u32
-        requires first { 1 ≤ signal }
-        requires last { signal ≤ count self.now }
+        requires signal { HasSignal self.now signal }
         ensures value { result ≡ red_parts self.now Dir.Outbound signal }
         ensures least { 1 ≤ result }
         ensures green { result < self.now.head.parts }
@@ -216,8 +210,7 @@ impl Artery {
 
     /// The inbound red, in parts: the common red and the outbound left turn.
     pub fn red_in(&self, signal: u32) -> u32
-        requires first { 1 ≤ signal }
-        requires last { signal ≤ count self.now }
+        requires signal { HasSignal self.now signal }
         ensures value { result ≡ red_parts self.now Dir.Inbound signal }
         ensures least { 1 ≤ result }
         ensures green { result < self.now.head.parts }
@@ -228,8 +221,7 @@ impl Artery {
 
     /// How many parts earlier a direction's line leaves a signal, so that the queue there clears.
     pub fn clearance(&self, dir: Dir, signal: u32) -> u32
-        requires first { 1 ≤ signal }
-        requires last { signal ≤ count self.now }
+        requires signal { HasSignal self.now signal }
         ensures value { result ≡ clearance self.now dir signal }
         ensures small { result < most_parts }
     {
@@ -243,8 +235,7 @@ impl Artery {
     /// Whether a signal allows a left turn pattern. The patterns are 1 to 4, and no other number is
     /// allowed.
     pub fn allows(&self, signal: u32, pattern: u32) -> bool
-        requires first { 1 ≤ signal }
-        requires last { signal ≤ count self.now }
+        requires signal { HasSignal self.now signal }
         ensures { result ≡ allows self.now signal pattern }
     {
         1 <= pattern && pattern <= 4 && self.signal(signal).patterns[pattern as usize - 1]
@@ -253,8 +244,7 @@ impl Artery {
     /// From the start of the inbound red to the end of the outbound red, less the common red, in
     /// parts.
     pub fn shift(&self, signal: u32, pattern: u32) -> u32
-        requires first { 1 ≤ signal }
-        requires last { signal ≤ count self.now }
+        requires signal { HasSignal self.now signal }
         requires least { 1 ≤ pattern }
         requires most { pattern ≤ 4 }
         ensures value { result ≡ pattern_shift self.now signal pattern }
@@ -271,8 +261,7 @@ impl Artery {
 
     /// The length of a link, in metres or feet, from `LEAST_DISTANCE` to `MOST_DISTANCE`.
     pub fn distance(&self, dir: Dir, link: u32) -> u32
-        requires first { 1 ≤ link }
-        requires last { link < count self.now }
+        requires link { HasLink self.now link }
         ensures value { result ≡ distance self.now dir link }
         ensures least { least_distance ≤ result }
         ensures most { result ≤ most_distance }
@@ -285,8 +274,7 @@ impl Artery {
     }
 
     fn speed(&self, dir: Dir, link: u32) -> Pair
-        requires first { 1 ≤ link }
-        requires last { link < count self.now }
+        requires link { HasLink self.now link }
         ensures value { result ≡ speed self.now dir link }
         ensures valid { IsSpeeds result }
     {
@@ -298,8 +286,7 @@ impl Artery {
     }
 
     fn change_given(&self, dir: Dir, link: u32) -> Option<Pair>
-        requires first { 1 ≤ link }
-        requires last { link < count self.now }
+        requires link { HasLink self.now link }
         ensures value { result ≡ change_given self.now dir link }
         ensures valid { IsChange result }
     {
@@ -312,8 +299,7 @@ impl Artery {
 
     /// The run on a link at the greatest speed, in seconds.
     pub fn run_low(&self, dir: Dir, link: u32) -> Frac
-        requires first { 1 ≤ link }
-        requires last { link < count self.now }
+        requires link { HasLink self.now link }
         ensures value { result ≡ run_low self.now dir link }
         ensures positive { pos 1 ≤ℤ result.num }
         ensures num { unsigned_abs result.num ≤ 540000000 }
@@ -325,8 +311,7 @@ impl Artery {
 
     /// The run on a link at the least speed, in seconds.
     pub fn run_high(&self, dir: Dir, link: u32) -> Frac
-        requires first { 1 ≤ link }
-        requires last { link < count self.now }
+        requires link { HasLink self.now link }
         ensures value { result ≡ run_high self.now dir link }
         ensures positive { pos 1 ≤ℤ result.num }
         ensures num { unsigned_abs result.num ≤ 540000000 }
@@ -339,8 +324,7 @@ impl Artery {
     /// The limits of the change of pace from a link to the link with the next number, in seconds
     /// per metre or foot. There is none exactly where the description gives none.
     pub fn change(&self, dir: Dir, link: u32) -> Option<Pair>
-        requires first { 1 ≤ link }
-        requires last { link < count self.now }
+        requires link { HasLink self.now link }
         ensures value { result ≡ change self.now dir link }
         ensures sizes { IfSome result (λ p. IsPaces p) }
     {

@@ -4,12 +4,13 @@ use Rattle.std.proofs.Math.Nat.{mul-le-mul_right}
 use Rattle.std.proofs.lemmas.Bool.{cases_lt}
 use Rattle.std.proofs.lemmas.Int.{ints}
 use Rattle.progression.specs.Street.{Street, count}
-use Rattle.progression.specs.TimingRecord.{TimingRecord, cycle}
+use Rattle.progression.specs.BaseRecord.{BaseRecord, cycle}
 use Rattle.progression.proofs.Remainders.{quot_ℤ, split_ℤ, mod_unique}
 use Rattle.progression.specs.declared.parts.Dir.{Dir}
 use Rattle.artery_model.specs.Valid.{IsValid}
-use Rattle.time_space.specs.Finer.{finer}
-use Rattle.band_measure.specs.Pairs.{RunsOn, FinerPairs}
+use Rattle.time_space.specs.Finer.{finer_base}
+use Rattle.band_measure.specs.Pairs.{FinerPairs}
+use Rattle.progression.specs.Lines.{RunsOn}
 use Rattle.band_measure.specs.Edges.{way, red_end, edge}
 use Rattle.band_measure.specs.Widest.{NoneRuns, IsWidest, OneWidest}
 use Rattle.band_measure.specs.Tried.{NoneAtEdges, IsWidestOfEdges}
@@ -29,7 +30,7 @@ gap_once c red s x b g =
     let i : s *ℤ pos 1 ≡ s = once s in
     rw (e, f, i) g
 
-module _ (a : Street) (t : TimingRecord) (h : IsValid a) (u : 2 ≤ t.unit) (d : Dir) where
+module _ (a : Street) (t : BaseRecord) (h : IsValid a) (u : 2 ≤ t.unit) (d : Dir) where
   some_cycle : 0 < cycle a t
   some_cycle = let p = h.least_parts in grind arith
 
@@ -69,7 +70,7 @@ module _ (a : Street) (t : TimingRecord) (h : IsValid a) (u : 2 ≤ t.unit) (d :
       let r = reached m x b q (finer_gaps a t h u d m x b q g) in
       n r.touch.at r.width r.touch.on (edge_runs r.touch.at r.width r.gaps)
 
-  widest_runs : (first band : ℕ) → IsWidestOfEdges a t d (count a) first band → (m : ℕ) (x : ℤ) (b : ℕ) → 1 ≤ m → RunsOn a (finer m t) d x b → b ≤ m * band
+  widest_runs : (first band : ℕ) → IsWidestOfEdges a t d (count a) first band → (m : ℕ) (x : ℤ) (b : ℕ) → 1 ≤ m → RunsOn a (finer_base m t) d x b → b ≤ m * band
   widest_runs first band o m x b q g =
       let r = reached m x b q (finer_gaps a t h u d m x b q g) in
       let w = o.widest r.touch.at r.width r.touch.on (edge_runs r.touch.at r.width r.gaps) in
@@ -110,7 +111,7 @@ module _ (a : Street) (t : TimingRecord) (h : IsValid a) (u : 2 ≤ t.unit) (d :
       omega arith
 
   -- a pair runs on the grid that is once as fine
-  pub runs_once : (x : ℤ) (b : ℕ) → RunsOn a t d x b → RunsOn a (finer 1 t) d x b
+  pub runs_once : (x : ℤ) (b : ℕ) → RunsOn a t d x b → RunsOn a (finer_base 1 t) d x b
   runs_once x b g = finer_runs a t h u d 1 x b (omega arith) (λ k l. gap_once (cycle a t) (long a t d k) (seen a t d k) x b (gaps_of a t h u d x b g k l))
 
 pub finer_pairs : FinerPairs

@@ -4,6 +4,5 @@ pub mod Lines
 pub mod AllGrids
 pub mod Rooms
 pub mod Tries
-pub mod Pairs
 pub mod Parts
 pub mod Cuts

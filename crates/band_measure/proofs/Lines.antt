@@ -3,69 +3,40 @@ use Rattle.std.proofs.Common.{◌≡◌, ℕ, zero, suc, ℤ, pos, ◌+ℤ◌, �
 use Rattle.std.specs.Prelude.{◌↔◌}
 use Rattle.std.proofs.lemmas.Int.{ints}
 use Rattle.progression.specs.Street.{Street, count, red_parts}
-use Rattle.progression.specs.TimingRecord.{TimingRecord, cycle, first, band}
+use Rattle.progression.specs.BaseRecord.{BaseRecord, cycle}
 use Rattle.progression.specs.Green.{red_start, red_ticks}
-use Rattle.progression.specs.Lines.{stop, advance, crossing, IsGreenAt}
+use Rattle.progression.specs.Lines.{stop, advance, crossing_from, IsGreenFrom, RunsOn}
 use Rattle.progression.specs.declared.parts.Dir.{Dir}
 use Rattle.progression.specs.declared.parts.Dir.TheVariants.{Outbound, Inbound}
 use Rattle.artery_model.specs.Valid.{IsValid}
-use Rattle.time_space.specs.Finer.{finer}
+use Rattle.time_space.specs.Finer.{finer_base}
 use Rattle.time_space.proofs.Scale.{minus_scale}
 use Rattle.time_space.proofs.FinerGrids.{plus_scale, cycle_finer, red_start_finer, red_ticks_finer, advance_finer, mul-le, red_bounds}
-use Rattle.band_measure.specs.Pairs.{with_pair, RunsOn, OwnPair}
-use Rattle.band_measure.specs.Edges.{way, IsGreenFrom}
+use Rattle.band_measure.specs.Edges.{way}
 use Rattle.band_measure.proofs.Gaps.{Gap, gap_from_green, green_from_gap, gap_later}
 
-pub way_next : (a : Street) (t : TimingRecord) (d : Dir) (j : ℕ) → way a t d (j + 1) ≡ way a t d j +ℤ advance a t d j
+pub way_next : (a : Street) (t : BaseRecord) (d : Dir) (j : ℕ) → way a t d (j + 1) ≡ way a t d j +ℤ advance a t d j
 way_next a t d j = ap (way a t d) (add-one j)
 
--- ---- a pair's crossings
-module _ (a : Street) (t : TimingRecord) (x : ℤ) (b : ℕ) where
-  advance_with : (d : Dir) (j : ℕ) → advance a (with_pair x b t) d j ≡ advance a t d j
-  advance_with Outbound j = refl
-  advance_with Inbound j = refl
-
-  -- a line's crossing is its first and the way
-  crossing_with : (d : Dir) (j : ℕ) → crossing a (with_pair x b t) d j ≡ x +ℤ way a t d j
-  crossing_with Outbound zero = omega (arith, ints)
-  crossing_with Inbound zero = omega (arith, ints)
-  crossing_with d (suc j) = let e = crossing_with d j in let f = advance_with d j in omega (arith, ints, e, f)
-
-  green_both : (d : Dir) (j : ℕ) → IsGreenAt a (with_pair x b t) d j ↔ IsGreenFrom a t d x b j
-  green_both Outbound j = ((λ g. rw (crossing_with Outbound j) at g), (λ g. rw (crossing_with Outbound j) g))
-  green_both Inbound j = ((λ g. rw (crossing_with Inbound j) at g), (λ g. rw (crossing_with Inbound j) g))
-
-  -- a pair runs exactly where its band is green from each of its crossings
-  pub runs_is : (d : Dir) → RunsOn a t d x b ↔ ((j : ℕ) → j < count a → IsGreenFrom a t d x b j)
-  runs_is d = ((λ g j l. (green_both d j).0 (g j l)), (λ g j l. (green_both d j).1 (g j l)))
-
--- the crossings of the timing's own line
-crossing_own : (a : Street) (t : TimingRecord) (d : Dir) (j : ℕ) → crossing a t d j ≡ first t d +ℤ way a t d j
-crossing_own a t Outbound zero = omega (arith, ints)
-crossing_own a t Inbound zero = omega (arith, ints)
-crossing_own a t d (suc j) = let e = crossing_own a t d j in omega (arith, ints, e)
-
--- its own first and band run exactly where its band is green
-pub own_pair : OwnPair
-own_pair a t d = (
-  (λ g. (runs_is a t (first t d) (band t d) d).1 (λ j l. rw (crossing_own a t d j) at (g j l))),
-  (λ g j l. rw (crossing_own a t d j) ((runs_is a t (first t d) (band t d) d).0 g j l)),
-)
+-- a line's crossing is its first and the way
+pub crossing_is : (a : Street) (t : BaseRecord) (d : Dir) (x : ℤ) (j : ℕ) → crossing_from a t d x j ≡ x +ℤ way a t d j
+crossing_is a t d x zero = omega (arith, ints)
+crossing_is a t d x (suc j) = let e = crossing_is a t d x j in omega (arith, ints, e)
 
 -- the start of the j-th signal's red, seen from the first crossing, and the red's length
-abbrev pub seen : Street → TimingRecord → Dir → ℕ → ℤ
+abbrev pub seen : Street → BaseRecord → Dir → ℕ → ℤ
 seen a t d j = red_start a t d (stop d (count a) j) -ℤ way a t d j
 
-abbrev pub long : Street → TimingRecord → Dir → ℕ → ℕ
+abbrev pub long : Street → BaseRecord → Dir → ℕ → ℕ
 long a t d j = red_ticks a t d (stop d (count a) j)
 
 -- the same on a finer grid
-module _ (a : Street) (t : TimingRecord) (m : ℕ) (d : Dir) where
-  way_finer : (j : ℕ) → way a (finer m t) d j ≡ way a t d j *ℤ pos m
+module _ (a : Street) (t : BaseRecord) (m : ℕ) (d : Dir) where
+  way_finer : (j : ℕ) → way a (finer_base m t) d j ≡ way a t d j *ℤ pos m
   way_finer zero = omega (arith, ints)
   way_finer (suc j) = rw (way_finer j, advance_finer a t m d j) (plus_scale (way a t d j) (advance a t d j) m)
 
-  seen_finer : (j : ℕ) → seen a (finer m t) d j ≡ seen a t d j *ℤ pos m
+  seen_finer : (j : ℕ) → seen a (finer_base m t) d j ≡ seen a t d j *ℤ pos m
   seen_finer j =
       let start = red_start_finer a t m d (stop d (count a) j) in
       let there = way_finer j in
@@ -74,7 +45,7 @@ module _ (a : Street) (t : TimingRecord) (m : ℕ) (d : Dir) where
 
   -- a finer grid's gaps are m times as large
   gap_finer : (j : ℕ) (x : ℤ) (b : ℕ)
-      → Gap (cycle a (finer m t)) (seen a (finer m t) d j) (long a (finer m t) d j) x b ↔ Gap (cycle a t * m) (seen a t d j *ℤ pos m) (long a t d j * m) x b
+      → Gap (cycle a (finer_base m t)) (seen a (finer_base m t) d j) (long a (finer_base m t) d j) x b ↔ Gap (cycle a t * m) (seen a t d j *ℤ pos m) (long a t d j * m) x b
   gap_finer j x b = let reds = red_ticks_finer a t m d (stop d (count a) j) in (
     (λ g. rw (cycle_finer a t m, reds, seen_finer j) at g),
     (λ g. rw (cycle_finer a t m, reds, seen_finer j) g),
@@ -88,7 +59,7 @@ stop_below : (d : Dir) (n j : ℕ) → j < n → stop d n j - 1 < n
 stop_below Outbound n j l = omega arith
 stop_below Inbound n j l = omega arith
 
-module _ (a : Street) (t : TimingRecord) (h : IsValid a) (u : 2 ≤ t.unit) (d : Dir) (j : ℕ) (l : j < count a) where
+module _ (a : Street) (t : BaseRecord) (h : IsValid a) (u : 2 ≤ t.unit) (d : Dir) (j : ℕ) (l : j < count a) where
   pub long_least : 2 ≤ long a t d j
   long_least = let r = red_bounds a h d (stop d (count a) j) (stop_below d (count a) j l) in
       let some : 1 * 2 ≤ red_parts a d (stop d (count a) j) * t.unit = mul-le r.0 u in omega (arith, some)
@@ -99,28 +70,28 @@ module _ (a : Street) (t : TimingRecord) (h : IsValid a) (u : 2 ≤ t.unit) (d :
   pub gap_from_line : (x : ℤ) (b : ℕ) → IsGreenFrom a t d x b j → Gap (cycle a t) (seen a t d j) (long a t d j) x b
   gap_from_line x b g =
       let w = way a t d j in
-      let o = gap_from_green (cycle a t) (long a t d j) (red_start a t d (stop d (count a) j)) (x +ℤ w) b long_least long_most g in
+      let o = gap_from_green (cycle a t) (long a t d j) (red_start a t d (stop d (count a) j)) (x +ℤ w) b long_least long_most (rw (crossing_is a t d x j) at g) in
       gap_later (cycle a t) (long a t d j) (red_start a t d (stop d (count a) j)) (x +ℤ w) b o (seen a t d j) x (pos 0 -ℤ w) (omega (arith, ints)) (omega (arith, ints))
 
   pub line_from_gap : (x : ℤ) (b : ℕ) → Gap (cycle a t) (seen a t d j) (long a t d j) x b → IsGreenFrom a t d x b j
   line_from_gap x b g =
       let w = way a t d j in
-      green_from_gap (cycle a t) (long a t d j) (red_start a t d (stop d (count a) j)) (x +ℤ w) b long_least long_most
-      (gap_later (cycle a t) (long a t d j) (seen a t d j) x b g (red_start a t d (stop d (count a) j)) (x +ℤ w) w (omega (arith, ints)) (omega (arith, ints)))
+      rw (crossing_is a t d x j) (green_from_gap (cycle a t) (long a t d j) (red_start a t d (stop d (count a) j)) (x +ℤ w) b long_least long_most
+      (gap_later (cycle a t) (long a t d j) (seen a t d j) x b g (red_start a t d (stop d (count a) j)) (x +ℤ w) w (omega (arith, ints)) (omega (arith, ints))))
 
-module _ (a : Street) (t : TimingRecord) (h : IsValid a) (u : 2 ≤ t.unit) (d : Dir) where
+module _ (a : Street) (t : BaseRecord) (h : IsValid a) (u : 2 ≤ t.unit) (d : Dir) where
   pub gaps_of : (x : ℤ) (b : ℕ) → RunsOn a t d x b → (k : ℕ) → k < count a → Gap (cycle a t) (seen a t d k) (long a t d k) x b
-  gaps_of x b g k l = gap_from_line a t h u d k l x b ((runs_is a t x b d).0 g k l)
+  gaps_of x b g k l = gap_from_line a t h u d k l x b (g k l)
 
   pub runs_from : (x : ℤ) (b : ℕ) → ((k : ℕ) → k < count a → Gap (cycle a t) (seen a t d k) (long a t d k) x b) → RunsOn a t d x b
-  runs_from x b g = (runs_is a t x b d).1 (λ k l. line_from_gap a t h u d k l x b (g k l))
+  runs_from x b g = (λ k l. line_from_gap a t h u d k l x b (g k l))
 
-  pub finer_gaps : (m : ℕ) (x : ℤ) (b : ℕ) → 1 ≤ m → RunsOn a (finer m t) d x b → (k : ℕ) → k < count a → Gap (cycle a t * m) (seen a t d k *ℤ pos m) (long a t d k * m) x b
+  pub finer_gaps : (m : ℕ) (x : ℤ) (b : ℕ) → 1 ≤ m → RunsOn a (finer_base m t) d x b → (k : ℕ) → k < count a → Gap (cycle a t * m) (seen a t d k *ℤ pos m) (long a t d k * m) x b
   finer_gaps m x b q g k l =
       let two : 2 ≤ t.unit * m = let e = mul-le u q in omega (arith, e) in
-      (gap_finer a t m d k x b).0 (gap_from_line a (finer m t) h two d k l x b ((runs_is a (finer m t) x b d).0 g k l))
+      (gap_finer a t m d k x b).0 (gap_from_line a (finer_base m t) h two d k l x b (g k l))
 
-  pub finer_runs : (m : ℕ) (x : ℤ) (b : ℕ) → 1 ≤ m → ((k : ℕ) → k < count a → Gap (cycle a t * m) (seen a t d k *ℤ pos m) (long a t d k * m) x b) → RunsOn a (finer m t) d x b
+  pub finer_runs : (m : ℕ) (x : ℤ) (b : ℕ) → 1 ≤ m → ((k : ℕ) → k < count a → Gap (cycle a t * m) (seen a t d k *ℤ pos m) (long a t d k * m) x b) → RunsOn a (finer_base m t) d x b
   finer_runs m x b q g =
       let two : 2 ≤ t.unit * m = let e = mul-le u q in omega (arith, e) in
-      (runs_is a (finer m t) x b d).1 (λ k l. line_from_gap a (finer m t) h two d k l x b ((gap_finer a t m d k x b).1 (g k l)))
+      (λ k l. line_from_gap a (finer_base m t) h two d k l x b ((gap_finer a t m d k x b).1 (g k l)))

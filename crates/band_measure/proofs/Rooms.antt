@@ -2,16 +2,14 @@
 use Rattle.std.proofs.Common.{◌≡◌, ℕ, ℤ, ◌+ℤ◌, ◌+◌, ◌-◌, ◌<◌, ◌≤◌, inl, inr, subst, arith}
 use Rattle.std.proofs.lemmas.Bool.{cases_lt}
 use Rattle.progression.specs.Street.{Street, count}
-use Rattle.progression.specs.TimingRecord.{TimingRecord, cycle}
+use Rattle.progression.specs.BaseRecord.{BaseRecord, cycle}
 use Rattle.progression.specs.Green.{since, BandIsGreen, red_start, red_ticks}
-use Rattle.progression.specs.Lines.{stop}
+use Rattle.progression.specs.Lines.{stop, crossing_from, IsGreenFrom, RunsOn}
 use Rattle.progression.proofs.Fits.{fits_from_band, band_from_fits}
 use Rattle.progression.specs.declared.parts.Dir.{Dir}
 use Rattle.artery_model.specs.Valid.{IsValid}
-use Rattle.band_measure.specs.Pairs.{RunsOn}
-use Rattle.band_measure.specs.Edges.{way, IsGreenFrom}
 use Rattle.band_measure.specs.Rooms.{IsRoom, IsRoomAt, IsWidestFrom}
-use Rattle.band_measure.proofs.Lines.{gaps_of, runs_is}
+use Rattle.band_measure.proofs.Lines.{gaps_of}
 
 -- ---- at one signal, by the ticks since the start of its red
 module _ (c red r : ℕ) (s x : ℤ) (h : 2 ≤ red) (k : red < c) (e : r ≡ since c s x) where
@@ -38,9 +36,9 @@ pub narrower : (c : ℕ) (s : ℤ) (red : ℕ) (x : ℤ) (b w : ℕ) → w ≤ b
 narrower c s red x b w l g = λ t k. g t (omega arith)
 
 -- ---- along the way
-module _ (a : Street) (t : TimingRecord) (d : Dir) (x : ℤ) where
+module _ (a : Street) (t : BaseRecord) (d : Dir) (x : ℤ) where
   pub narrower_from : (b w j : ℕ) → w ≤ b → IsGreenFrom a t d x b j → IsGreenFrom a t d x w j
-  narrower_from b w j l g = narrower (cycle a t) (red_start a t d (stop d (count a) j)) (red_ticks a t d (stop d (count a) j)) (x +ℤ way a t d j) b w l g
+  narrower_from b w j l g = narrower (cycle a t) (red_start a t d (stop d (count a) j)) (red_ticks a t d (stop d (count a) j)) (crossing_from a t d x j) b w l g
 
   -- the lesser width is green at one signal more
   pub walk_green : (n band room less : ℕ) → less ≤ band → less ≤ room → ((k : ℕ) → k < n → IsGreenFrom a t d x band k) → IsRoomAt a t d x n room
@@ -52,15 +50,15 @@ module _ (a : Street) (t : TimingRecord) (d : Dir) (x : ℤ) where
 
   -- where one signal has no green no band runs
   pub none_from : (n : ℕ) → n < count a → ((b : ℕ) → ¬ IsGreenFrom a t d x b n) → (b : ℕ) → ¬ RunsOn a t d x b
-  none_from n l f b g = f b ((runs_is a t x b d).0 g n l)
+  none_from n l f b g = f b (g n l)
 
   pub widest_from : IsValid a → 2 ≤ t.unit → (band : ℕ) → ((k : ℕ) → k < count a → IsGreenFrom a t d x band k)
       → ((b : ℕ) → b ≤ cycle a t → ((k : ℕ) → k < count a → IsGreenFrom a t d x b k) → b ≤ band) → IsWidestFrom a t d x band
   widest_from h u band g most = record {
-    runs = (runs_is a t x band d).1 g;
+    runs = g;
     most = λ b r.
         let some : 0 < count a = let n = h.few in omega arith in
         let gap = gaps_of a t h u d x b r 0 some in
         let room = gap.room in
-        most b (omega arith) ((runs_is a t x b d).0 r);
+        most b (omega arith) r;
   }

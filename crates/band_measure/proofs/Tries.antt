@@ -3,10 +3,10 @@ use Rattle.std.proofs.Common.{◌≡◌, ℕ, pos, ◌+◌, ◌<◌, ◌≤◌, 
 use Rattle.std.specs.Prelude.{Option, None, Some, MatchOption, IfSome}
 use Rattle.std.proofs.lemmas.Bool.{cases_lt}
 use Rattle.progression.specs.Street.{Street, count}
-use Rattle.progression.specs.TimingRecord.{TimingRecord, cycle}
+use Rattle.progression.specs.BaseRecord.{BaseRecord, cycle}
 use Rattle.progression.specs.declared.parts.Dir.{Dir}
 use Rattle.artery_model.specs.Valid.{IsValid}
-use Rattle.band_measure.specs.Pairs.{RunsOn}
+use Rattle.progression.specs.Lines.{RunsOn}
 use Rattle.band_measure.specs.Edges.{edge}
 use Rattle.band_measure.specs.Widest.{NoneRuns, IsWidest}
 use Rattle.band_measure.specs.Rooms.{IsWidestFrom}
@@ -14,7 +14,7 @@ use Rattle.band_measure.specs.Tried.{NoneAtEdges, IsWidestOfEdges, FoundOfEdges}
 use Rattle.band_measure.specs.declared.pair.Widest.{Widest}
 use Rattle.band_measure.proofs.AllGrids.{none_runs, widest_is, runs_once, band_below}
 
-module _ (a : Street) (t : TimingRecord) (d : Dir) (n : ℕ) where
+module _ (a : Street) (t : BaseRecord) (d : Dir) (n : ℕ) where
   one_more : (P : ℕ → Type 0) → ((k : ℕ) → k < n → P k) → P n → (k : ℕ) → k < n + 1 → P k
   one_more P f p k l = elim (cases_lt k n) [ inl h ↦ f k h | inr h ↦ let e : n ≡ k = omega arith in subst P e p ]
 
@@ -74,21 +74,21 @@ module _ (a : Street) (t : TimingRecord) (d : Dir) (n : ℕ) where
     }
 
 -- where there is a widest pair, not no pair runs
-pub some_run : (a : Street) (t : TimingRecord) (d : Dir) (found : Option Widest) → IsValid a → 2 ≤ t.unit → FoundOfEdges a t d (count a) found → IfSome found (λ (w : Widest). ¬ NoneRuns a t d)
+pub some_run : (a : Street) (t : BaseRecord) (d : Dir) (found : Option Widest) → IsValid a → 2 ≤ t.unit → FoundOfEdges a t d (count a) found → IfSome found (λ (w : Widest). ¬ NoneRuns a t d)
 some_run a t d None h u f = tt
 some_run a t d (Some w) h u f = λ n. n 1 (pos w.first) w.band (omega arith) (runs_once a t h u d (pos w.first) w.band f.runs)
 
-pub first_below_cycle : (a : Street) (t : TimingRecord) (d : Dir) (found : Option Widest) → FoundOfEdges a t d (count a) found → IfSome found (λ (w : Widest). w.first < cycle a t)
+pub first_below_cycle : (a : Street) (t : BaseRecord) (d : Dir) (found : Option Widest) → FoundOfEdges a t d (count a) found → IfSome found (λ (w : Widest). w.first < cycle a t)
 first_below_cycle a t d None f = tt
 first_below_cycle a t d (Some w) f = f.below
 
-pub band_below_cycle : (a : Street) (t : TimingRecord) (d : Dir) (found : Option Widest) → IsValid a → 2 ≤ t.unit → FoundOfEdges a t d (count a) found
+pub band_below_cycle : (a : Street) (t : BaseRecord) (d : Dir) (found : Option Widest) → IsValid a → 2 ≤ t.unit → FoundOfEdges a t d (count a) found
     → IfSome found (λ (w : Widest). w.band < cycle a t)
 band_below_cycle a t d None h u f = tt
 band_below_cycle a t d (Some w) h u f = band_below a t h u d (pos w.first) w.band f.runs
 
 -- the best of all edges is the best of all
-pub widest_of_edges : (a : Street) (t : TimingRecord) (d : Dir) (found : Option Widest) → IsValid a → 2 ≤ t.unit → FoundOfEdges a t d (count a) found
+pub widest_of_edges : (a : Street) (t : BaseRecord) (d : Dir) (found : Option Widest) → IsValid a → 2 ≤ t.unit → FoundOfEdges a t d (count a) found
     → MatchOption found (NoneRuns a t d) (λ (w : Widest). IsWidest a t d w.first w.band)
 widest_of_edges a t d None h u f = none_runs a t h u d f
 widest_of_edges a t d (Some w) h u f = widest_is a t h u d w.first w.band f

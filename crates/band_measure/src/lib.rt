@@ -1,23 +1,20 @@
-//! The widest bands of given offsets: of a timing's grid, unit, patterns, reds and runs, whatever its firsts and bands.
+//! The widest bands on a base: on a timing's grid, patterns, reds and runs.
 //!
-//! A pair is a first line and a band, and it runs where the timing with this pair has green all the way (`specs/Pairs.antt`).
-//! `specs/Widest.antt` says which pair is the widest. Start with `base_holds`, then `widest`.
+//! A pair is a first line and a band, and it runs where the band has green all the way. `specs/Widest.antt` says which pair is the
+//! widest. Start with `base_holds`, then `widest`, or with `check_base` and `widest_on` where there is a base and no timing.
 //!
-//! The timing's own firsts and bands play no part. The widest pair runs, its first is below the cycle, no lesser first from 0 has
-//! its band, and for every m of at least 1 each pair that runs on the timing with every tick number multiplied by m has a band of
-//! at most m times this one. None comes exactly where no pair runs, however fine the grid. The band is below the cycle too.
-//! `widest` asks only that timing and artery have as many signals, which an Ok of `base_holds` gives, and it takes no memory. Why
-//! it is enough to try the firsts at which a line leaves a red is in `proofs/`: a band that runs on any finer grid can be widened
-//! to the left until it begins at the end of a red, and there whole ticks of this grid begin one that is at least as wide (`Gaps`,
-//! `Coarse`, `AllGrids`).
+//! The widest pair runs, its first is below the cycle, no lesser first from 0 has its band, and for every m of at least 1 each pair
+//! that runs on the base with every tick number multiplied by m has a band of at most m times this one. None comes exactly where no
+//! pair runs, however fine the grid. The band is below the cycle too. `widest` asks only that timing and artery have as many
+//! signals, which an Ok of `base_holds` gives, and it takes no memory. Why it is enough to try the firsts at which a line leaves a
+//! red is in `proofs/`: a band that runs on any finer grid can be widened to the left until it begins at the end of a red, and there
+//! whole ticks of this grid begin one that is at least as wide (`Gaps`, `Coarse`, `AllGrids`).
 //!
 //! `cut` makes two bands as narrow as the artery's ratio rule and its `equal` ask, and no narrower (`specs/Cut.antt`).
 //!
-//! Laws over the definitions: a timing's own band is green all the way exactly where its own pair runs (`law_own_pair`); a pair
-//! runs exactly where m times it runs on the grid that is m times as fine (`law_finer_pairs`); at most one pair is the widest
-//! (`law_one_widest`); and a timing with two pairs is good exactly where the rules up to the changes of pace hold, the bands keep
-//! their ratio, their least and their equality, and both pairs run (`law_pairs_make_good`). A line's way from its first signal
-//! stands here too, where `mirror_theory` takes it from.
+//! Laws over the definitions: a pair runs exactly where m times it runs on the grid that is m times as fine (`law_finer_pairs`), and
+//! at most one pair is the widest (`law_one_widest`). A line's way from its first signal stands here too, where `mirror_theory`
+//! takes it from.
 #![tactic(auto)]
 
 mod bands;
@@ -28,7 +25,7 @@ mod room;
 mod ways;
 
 pub use bands::{Bands, cut};
-pub use laws::{law_finer_pairs, law_one_widest, law_own_pair, law_pairs_make_good};
-pub use measure::widest;
-pub use pair::{BothPairs, GridScale, Widest, timing_with};
-pub use time_space::base_holds;
+pub use laws::{law_finer_pairs, law_one_widest};
+pub use measure::{widest, widest_on};
+pub use pair::{BothPairs, Widest};
+pub use time_space::{base_holds, check_base};

@@ -1,14 +1,15 @@
 //! How wide a band is that begins at a line: at one signal, and at all.
 
-ghost use Rattle.std.specs.Prelude.{◌≡◌, ◌+◌, ◌-◌, ◌<◌, ◌≤◌, ◌^◌, ℕ, length, pos, ◌+ℤ◌, unsigned_abs, MatchOption};
-ghost use Rattle.progression.specs.{Street.{count}, Green.{BandIsGreen}};
+ghost use Rattle.std.specs.Prelude.{◌≡◌, ◌+◌, ◌-◌, ◌<◌, ◌≤◌, ◌^◌, ℕ, pos, ◌+ℤ◌, unsigned_abs, MatchOption};
+ghost use Rattle.progression.specs.{Street.{count}, Green.{BandIsGreen}, Lines.{IsGreenFrom, RunsOn}};
 ghost use Rattle.time_space.specs.Sizes.{IsWithin};
-ghost use Rattle.band_measure.specs.{Pairs.{RunsOn}, Edges.{way, IsGreenFrom}, Rooms.{IsRoom, IsRoomAt, IsWidestFrom}};
+ghost use Rattle.band_measure.specs.{Edges.{way}, Rooms.{IsRoom, IsRoomAt, IsWidestFrom}};
+ghost use Rattle.time_space.specs.Timing.{IsFor};
 
 use crate::ways::way_beyond;
 use artery_model::Artery;
 use progression::Dir;
-use time_space::{Timing, cycle, red_start, red_ticks, since_start, stop};
+use time_space::{Base, since_start, stop};
 
 /// The widest band at one signal whose first line crosses it at this tick.
 fn room(cycle: u128, start: i128, red: u128, line: i128) -> Option<u128>
@@ -42,25 +43,25 @@ fn line(first: u128, later: i128) -> i128
 /// The widest band at a place in travel order whose first line crosses the first signal at `first`.
 fn room_at(
     artery: &Artery,
-    timing: &Timing,
+    base: &Base,
     dir: Dir,
     place: u32,
     first: u128,
     later: i128,
 ) -> Option<u128>
     requires on_way { place < count artery.now }
-    requires shape { length timing.now.patterns ≡ count artery.now }
+    requires shape { IsFor artery.now base.now }
     requires first { first < 2 ^ 92 }
-    requires here { later ≡ way artery.now timing.now dir place }
+    requires here { later ≡ way artery.now base.now dir place }
     requires near { unsigned_abs later < 2 ^ 98 }
-    ensures { MatchOption result ((b : ℕ) → ¬ IsGreenFrom artery.now timing.now dir (pos first) b place)
-        (λ w. IsRoomAt artery.now timing.now dir (pos first) place w) }
+    ensures { MatchOption result ((b : ℕ) → ¬ IsGreenFrom artery.now base.now dir (pos first) b place)
+        (λ w. IsRoomAt artery.now base.now dir (pos first) place w) }
 {
     let signal = stop(dir, artery.count(), place);
-    let start = red_start(artery, timing, dir, signal);
-    let red = red_ticks(artery, timing, dir, signal);
+    let start = base.red_start(artery, dir, signal);
+    let red = base.red_ticks(artery, dir, signal);
     let crossed = line(first, later);
-    room(cycle(artery, timing), start, red, crossed)
+    room(base.cycle(artery), start, red, crossed)
 }
 
 /// The lesser of two widths.
@@ -73,22 +74,22 @@ fn lesser(one: u128, other: u128) -> u128
 }
 
 /// The widest band whose first line crosses the first signal of its way at `first`, or None where some signal is red then.
-pub fn band_from(artery: &Artery, timing: &Timing, dir: Dir, first: u128) -> Option<u128>
-    requires shape { length timing.now.patterns ≡ count artery.now }
+pub fn band_from(artery: &Artery, base: &Base, dir: Dir, first: u128) -> Option<u128>
+    requires shape { IsFor artery.now base.now }
     requires first { first < 2 ^ 92 }
-    ensures { MatchOption result ((b : ℕ) → ¬ RunsOn artery.now timing.now dir (pos first) b)
-        (λ w. IsWidestFrom artery.now timing.now dir (pos first) w) }
+    ensures { MatchOption result ((b : ℕ) → ¬ RunsOn artery.now base.now dir (pos first) b)
+        (λ w. IsWidestFrom artery.now base.now dir (pos first) w) }
 {
     artery.known_valid();
-    prove!(2 <= timing.unit());
-    let mut band = cycle(artery, timing);
+    prove!(2 <= base.unit());
+    let mut band = base.cycle(artery);
     let mut later = 0;
     for place in 0..artery.count() {
-        let Some(room) = room_at(artery, timing, dir, place, first, later) else {
+        let Some(room) = room_at(artery, base, dir, place, first, later) else {
             return None;
         };
         band = lesser(band, room);
-        later = way_beyond(artery, timing, dir, place, later);
+        later = way_beyond(artery, base, dir, place, later);
     }
     Some(band)
 }

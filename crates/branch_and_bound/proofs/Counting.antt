@@ -93,7 +93,7 @@ lineages r best (line ∷ lines) (Waiting leaf ∷ nodes) a h = ((h.0, a.0), lin
 counted : {T K W : Type 0} (r : Rules T K W) (best : Option (Incumbent T)) (most : ℕ) → IsShort r most → (i : ℕ) (line : BoxLine) (node : TreeNode) (cut : Option At)
     → cut ≡ cut_of node → IsMetNode r best line node → IsCounted r most line cut
 counted r best most s i line (Split p point) cut e h =
-    record { cost = s.cost line h.1; inside = λ place f. let q : p ≡ place = cc in subst (λ x. IsPlace line.area x) q (r.inside line p h.1 h.0.end) }
+    record { cost = s.cost line h.1; inside = λ place f. let q : p ≡ place = cc in subst (λ x. IsPlace line.area x) q (r.laws.inside line p h.1 h.0.end) }
 counted r best most s i line (Closed leaf) cut e h = record { cost = s.cost line h.1; inside = λ place f. cc }
 counted r best most s i line (Waiting leaf) cut e h = record { cost = s.cost line h.1; inside = λ place f. cc }
 
@@ -121,7 +121,7 @@ root_cut r best (Waiting other ∷ node ∷ nodes) (suc index) leaf place h at e
 -- so the measure of its box counts its choices
 root_room : {T K W : Type 0} (r : Rules T K W) → r.IsSound → IsRootCut r → room (lines_of r) ≡ greatest r
 root_room r sound cut =
-    let same = volume_same r.root (r.has_numbers (top_line r.root) cut.place (at_top sound) cut.end) in
+    let same = volume_same r.root (r.laws.has_numbers (top_line r.root) cut.place (at_top sound) cut.end) in
     let some = volume_positive r.root in
     let most : max 1 (choices r.root) ≡ choices r.root = max-eq_right (omega (arith, same)) in
     omega (arith, same, most)
@@ -156,7 +156,7 @@ undone_under r sound best nodes part spot most h s short =
     subst (λ l. IsCounted r most l (Some spot.place)) lines_same (record {
       cost = short.cost line here.1;
       inside = λ place e. let q : spot.place ≡ place =
-          cc in subst (λ p. IsPlace line.area p) q (r.inside line spot.place here.1 s.end);
+          cc in subst (λ p. IsPlace line.area p) q (r.laws.inside line spot.place here.1 s.end);
     }) in
     let low_is : IsCounted r most (low_line spot.place (line_after own lines front)) None =
     subst (λ l. IsCounted r most (low_line spot.place l) None) lines_same (record { cost = short.cost (low_line spot.place line) low; inside = λ place e. cc }) in

@@ -56,7 +56,7 @@ value_of (Some best) = Some best.value
 
 covered : {T K W : Type 0} (r : Rules T K W) (best : Option (Incumbent T)) (area : Area) (leaf : Leaf) (v : ℚ) → r.Covers area leaf v → IsReached v best → IsProof r (value_of best) area leaf
 covered r None area leaf v h k = absurd k
-covered r (Some best) area leaf v h k = inr (r.covers_more area leaf v best.value h k)
+covered r (Some best) area leaf v h k = inr (r.laws.covers_more area leaf v best.value h k)
 
 refuted : {T K W : Type 0} (r : Rules T K W) (best : Option (Incumbent T)) (area : Area) (leaf : Leaf) → r.Refutes area leaf → IsProof r (value_of best) area leaf
 refuted r None area leaf h = h
@@ -64,7 +64,7 @@ refuted r (Some best) area leaf h = inl h
 
 accepted_node : {T K W : Type 0} (r : Rules T K W) (best : Option (Incumbent T)) (top : ℚ) (line : BoxLine) (node : TreeNode) → IsTreeNode r best best top line node
     × IsNotWaiting node → IsAcceptedNode r (value_of best) line node
-accepted_node r best top line (tree.Split place point) (h, n) = r.inside line place h.lineage h.end
+accepted_node r best top line (tree.Split place point) (h, n) = r.laws.inside line place h.lineage h.end
 accepted_node r best top line (tree.Closed leaf) (h, n) = elim (h.shows) [
   | inl k ↦ refuted r best line.area leaf k.refutes
   | inr k ↦ elim k [ inl m ↦ covered r best line.area leaf (r.bound line) m.covers m.reached | inr m ↦ covered r best line.area leaf (r.bound line) m.covers m.reached ]

@@ -122,9 +122,9 @@ grown r front rest area leaf bound place point kept index old new top low high h
     let w : IsWaiting r top line area leaf bound place point kept = Fills-at place_of (IsNode r old.incumbent top) lines front node rest h.tree in
     let bound_top : bound ≤ℚ top = subst (λ b. b ≤ℚ top) (sym w.bounds.bound_is) w.under in
     let low_under : IsOptimal (r.ending (low_line place line)) → r.bound (low_line place line) ≤ℚ bound =
-    λ optimal. subst (λ b. r.bound (low_line place line) ≤ℚ b) (sym w.bounds.bound_is) (r.low_falls line place w.lineage w.end optimal) in
+    λ optimal. subst (λ b. r.bound (low_line place line) ≤ℚ b) (sym w.bounds.bound_is) (r.laws.low_falls line place w.lineage w.end optimal) in
     let high_under : IsOptimal (r.ending (high_line place line)) → r.bound (high_line place line) ≤ℚ bound =
-    λ optimal. subst (λ b. r.bound (high_line place line) ≤ℚ b) (sym w.bounds.bound_is) (r.high_falls line place w.lineage w.end optimal) in
+    λ optimal. subst (λ b. r.bound (high_line place line) ≤ℚ b) (sym w.bounds.bound_is) (r.laws.high_falls line place w.lineage w.end optimal) in
     let f : (v : ℚ) → IsReached v both.middle.incumbent → IsReached v new.incumbent = λ v k. reached_still r (high_line place line) both.middle.incumbent new.incumbent v both.high_is.better k in
     let g : (v : ℚ) → IsReached v old.incumbent → IsReached v new.incumbent = λ v k. f v (reached_still r (low_line place line) old.incumbent both.middle.incumbent v both.low_is.better k) in
     let old_nodes : Fills place_of (IsNode r new.incumbent bound) lines (front ++ node ∷ rest) =

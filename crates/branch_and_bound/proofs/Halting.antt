@@ -114,7 +114,7 @@ by_part r limit nodes shown g old new top stop place h greatest beaten m w units
     low_cases r limit shown g.bound new.incumbent old.meter new.meter (record { index = g.index; place = place }) stop units k halts.stops e
 by_part r limit nodes shown g old new top stop place h greatest beaten m w units end (inr halts) e =
     let line = line_at r shown g.index in
-    let under : IsPartUnder r (Some (low_line place line)) g.bound = λ optimal. subst (λ b. r.bound (low_line place line) ≤ℚ b) w.bound_is (r.low_falls line place w.lineage end optimal) in
+    let under : IsPartUnder r (Some (low_line place line)) g.bound = λ optimal. subst (λ b. r.bound (low_line place line) ≤ℚ b) w.bound_is (r.laws.low_falls line place w.lineage end optimal) in
     let k = stopped r nodes shown g greatest.waits.node old.incumbent new.incumbent top old.meter.spent (Some (low_line place line)) place h m
     greatest.waits.at greatest.waits.waits end (over_all nodes (Some g) greatest) beaten halts.better under in
     high_cases r limit shown g.bound new.incumbent old.meter halts.between new.meter (record { index = g.index; place = place }) stop units k halts.low_cost.spent halts.stops halts.read e

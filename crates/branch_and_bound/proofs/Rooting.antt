@@ -69,7 +69,7 @@ root_stuck r limit (Some best) before after leaf bound site sound e l f h = cc
 root_stuck r limit None before after leaf bound site sound e l f h =
     let line = top_line r.root in
     let optimal : IsOptimal (r.ending line) = subst IsOptimal (sym h.opens.end) tt in
-    let stays : r.Refutes line.area leaf → ⊥ = r.not_refuted line leaf (at_top sound) optimal h.opens.bounds.leaf_is in
+    let stays : r.Refutes line.area leaf → ⊥ = r.laws.not_refuted line leaf (at_top sound) optimal h.opens.bounds.leaf_is in
     record {
       case = RootUnread;
       accepted = (inr h.opens.bounds.covers, tt);

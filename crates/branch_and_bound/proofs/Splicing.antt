@@ -56,7 +56,7 @@ pub is_cut : {T K W : Type 0} (r : Rules T K W) (top : ℚ) (line : BoxLine) (ar
 is_cut r top line area leaf bound place point kept h = record { lineage = h.lineage; area_is = h.area_is; end = h.end; kept_is = h.kept_is }
 
 pub is_inside : {T K W : Type 0} (r : Rules T K W) (line : BoxLine) (area : Area) (place : At) (kept : K) → IsCut r line area place kept → IsPlace area place
-is_inside r line area place kept h = subst (λ a. IsPlace a place) (sym h.area_is) (r.inside line place h.lineage h.end)
+is_inside r line area place kept h = subst (λ a. IsPlace a place) (sym h.area_is) (r.laws.inside line place h.lineage h.end)
 
 -- the node that waits is no other
 pub not_other : {K : Type 0} (nodes : List (Node K)) (index : ℕ) (bound : ℚ) (node : Node K)
@@ -119,10 +119,10 @@ is_grown r nodes index area leaf bound place point kept old new top low high h e
     let over_again : All (λ n. IsOverBound (Some (record { index = index; bound = bound })) (bound_of n)) (take index nodes ++ node ∷ drop (index + 1) nodes) =
     subst (λ ns. All (λ n. IsOverBound (Some (record { index = index; bound = bound })) (bound_of n)) ns) (sym whole) over in
     let low_weight = weight_of r both.middle.incumbent bound (low_line place line) low (both.low_is.is bound (at_low line place w.lineage w.end)
-    (λ o. subst (λ b. r.bound (low_line place line) ≤ℚ b) (sym w.bounds.bound_is) (r.low_falls line place w.lineage w.end o))) in
+    (λ o. subst (λ b. r.bound (low_line place line) ≤ℚ b) (sym w.bounds.bound_is) (r.laws.low_falls line place w.lineage w.end o))) in
     let high_weight = weight_of r new.incumbent bound (high_line place line) high (both.high_is.is bound (at_high line place w.lineage w.end)
-    (λ o. subst (λ b. r.bound (high_line place line) ≤ℚ b) (sym w.bounds.bound_is) (r.high_falls line place w.lineage w.end o))) in
-    let parts = lighter_by _ _ _ (volume_split line.area place (r.inside line place w.lineage w.end)) (volume_positive (low_line place line).area) (volume_positive (high_line place line).area) in
+    (λ o. subst (λ b. r.bound (high_line place line) ≤ℚ b) (sym w.bounds.bound_is) (r.laws.high_falls line place w.lineage w.end o))) in
+    let parts = lighter_by _ _ _ (volume_split line.area place (r.laws.inside line place w.lineage w.end)) (volume_positive (low_line place line).area) (volume_positive (high_line place line).area) in
     record {
       top = bound;
       holds = grown r (take index nodes) (drop (index + 1) nodes) area leaf bound place point kept index old new top low high again over_again under both;

@@ -127,15 +127,15 @@ leaf_under r old new bound under line (tree.Waiting leaf) h = λ no. h.under
 -- each leaf is a proof with the bound
 stop_accepted : {T K W : Type 0} (r : Rules T K W) (old new : Option (Incumbent T)) (bound : ℚ) → IsUnder old bound
     → (line : BoxLine) (node : TreeNode) → IsTreeNode r old new bound line node → IsAcceptedNode r (Some bound) line node
-stop_accepted r old new bound under line (tree.Split place point) h = r.inside line place h.lineage h.end
+stop_accepted r old new bound under line (tree.Split place point) h = r.laws.inside line place h.lineage h.end
 stop_accepted r old new bound under line (tree.Closed leaf) h = elim (h.shows) [
   | inl k ↦ inl k.refutes
   | inr k ↦ elim k [
-    | inl m ↦ inr (r.covers_more line.area leaf (r.bound line) bound m.covers (reached_under old (r.bound line) bound m.reached under))
-    | inr m ↦ inr (r.covers_more line.area leaf (r.bound line) bound m.covers m.under)
+    | inl m ↦ inr (r.laws.covers_more line.area leaf (r.bound line) bound m.covers (reached_under old (r.bound line) bound m.reached under))
+    | inr m ↦ inr (r.laws.covers_more line.area leaf (r.bound line) bound m.covers m.under)
   ]
 ]
-stop_accepted r old new bound under line (tree.Waiting leaf) h = inr (r.covers_more line.area leaf (r.bound line) bound h.covers h.under)
+stop_accepted r old new bound under line (tree.Waiting leaf) h = inr (r.laws.covers_more line.area leaf (r.bound line) bound h.covers h.under)
 
 -- no leaf has the bound as its timing's value
 none_gives : {T K W : Type 0} (r : Rules T K W) (old new : Option (Incumbent T)) (low v : ℚ) → IsBeaten old v
@@ -214,7 +214,7 @@ stopped r nodes shown g (Waiting area leaf b p point kept) old new top spent par
     let back : HasOther (IsShown new (Some g.index)) 0 shown g.index node = Matches-back (IsShown new (Some g.index)) 0 nodes shown g.index node m at in
     let again : WaitsAgain shown g.index = waits_again new g.index shown area leaf b p point kept back.node back.at back.is in
     let waiting : StillWaits r g.bound line again.leaf = there cut_of (IsTreeNode r old new g.bound) lines shown g.index (tree.Waiting again.leaf) nodes_are again.at in
-    let stays : r.Refutes line.area again.leaf → ⊥ = r.not_refuted line again.leaf waiting.lineage (subst IsOptimal (sym end) tt) waiting.leaf_is in
+    let stays : r.Refutes line.area again.leaf → ⊥ = r.laws.not_refuted line again.leaf waiting.lineage (subst IsOptimal (sym end) tt) waiting.leaf_is in
     let leaves : Fills cut_of (IsNodeUnder r g.bound) lines shown = Fills-map cut_of (IsTreeNode r old new g.bound) (IsNodeUnder r g.bound)
     (leaf_under r old new g.bound old_under) lines shown nodes_are in
     let whole = cut_here shown g.index (tree.Waiting again.leaf) again.at in

@@ -1,7 +1,7 @@
 //! The families of an artery's rows: which number each has, where its rows stand, and what they are.
 
-ghost use Rattle.std.specs.Prelude.{◌≡◌, ◌↔◌, IsTrue, ◌+◌, ◌<◌, ◌≤◌, length};
-ghost use Rattle.progression.specs.Street.{count};
+ghost use Rattle.std.specs.Prelude.{◌≡◌, ◌↔◌, IsTrue, ◌+◌, ◌<◌, length};
+ghost use Rattle.progression.specs.Street.{count, HasLink};
 ghost use Rattle.linear_theory.specs.{Boxes.{IsBoxOf}, Places.{width}, Rows.{places_of, block_entries}, Names.{HasRow, HasChange, form_of}};
 ghost use Rattle.linear_theory.proofs.NamedRows.{row_law};
 ghost use Rattle.loop_rows.specs.{Directions.{by_dir}, Families.{number_of, row_in}, laws.Meeting.{at_written}};
@@ -73,8 +73,7 @@ fn is_limited(artery: &Artery, dir: Dir, link: u32) -> bool
 
 /// The row of a link's block sum, with the number of the columns that are added and that of those that are taken away.
 fn fill_block(artery: &Artery, link: u32, added: Frac, taken: Frac, bound: Frac, into: &mut Row)
-    requires first { 1 ≤ link }
-    requires last { link < count artery.now }
+    requires link { HasLink artery.now link }
     requires columns { length into.old.coefs ≡ width (count artery.now) }
     ensures value { into.new ≡ written_cells (width (count artery.now)) (places_of (count artery.now) (block_entries link added taken)) bound }
     ensures width { length into.new.coefs ≡ length into.old.coefs }

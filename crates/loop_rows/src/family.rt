@@ -17,7 +17,9 @@ pub trait Problem {
     ghost counts: { Street → Area → List ℚ → Type 0 };
 }
 
-/// The problem whose points are those of good timings with block sums and shift ranks in the box.
+/// A band of the whole artery in each direction. As a problem, its points are those of good timings with block sums and shift ranks
+/// in the box.
+#[derive(Drop)]
 pub struct Progression;
 
 impl Problem for Progression {

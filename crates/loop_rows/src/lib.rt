@@ -10,8 +10,8 @@
 //! is a variant with its line in each table of `families.rt` and an arm of `family_of`.
 //!
 //! For the rows of another linear program: families of another `Problem`, whose rows `fill_cells` makes and `fill_by` asks for; a
-//! `RowTable`, whose rows `next_in` names in their order; a `RowSource`, whose rows `sum_of` adds up. Those of an artery are the
-//! instances `Progression`, `ArteryTable` and `BoxRows`.
+//! `RowTable`, whose rows `next_in` names in their order; a `RowSource`, whose rows `sum_of` adds up. Those of an artery are of
+//! `Progression`, and its source is `BoxRows`.
 //!
 //! `fill_row` clears the row first and makes it exactly, unspent; it is false, and the row stays as it was, exactly where the
 //! artery has no such row. `block_sum` adds its twelve terms in order or names the first operation past 128 bits, and `leaf_sum`
@@ -41,6 +41,6 @@ pub use fault::SumFault;
 pub use following::{RowTable, next_in};
 pub use leaves::{leaf_sum, sum_of};
 pub use numbers::green;
-pub use rows::{ArteryTable, box_bound, fill_by, fill_goal, fill_row, has_by, has_row, next_row};
+pub use rows::{box_bound, fill_by, fill_goal, fill_row, has_by, has_row, next_row};
 pub use source::{BoxRows, RowSource};
 pub use sums::block_sum;

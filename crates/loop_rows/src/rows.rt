@@ -11,7 +11,7 @@ ghost use Rattle.loop_rows.specs.Following.{rows_of_artery, IsNextRow};
 use crate::cells::fill_cells;
 use crate::columns::band_column;
 use crate::families::ArteryFamily;
-use crate::family::Family;
+use crate::family::{Family, Progression};
 use crate::following::{RowTable, next_in};
 use artery_model::{Artery, Dir};
 use named_row::{Row, RowId};
@@ -141,11 +141,7 @@ pub fn has_row(artery: &Artery, family: u8, index: u32) -> bool
     }
 }
 
-/// The rows of an artery.
-#[derive(Drop)]
-pub struct ArteryTable;
-
-impl RowTable for ArteryTable {
+impl RowTable for Progression {
     ghost exists = { λ table a. rows_of_artery a };
 
     ghost last = { λ table. last_family };
@@ -168,5 +164,5 @@ impl RowTable for ArteryTable {
 pub fn next_row(artery: &Artery, after: Option<RowId>) -> Option<RowId>
     ensures { IsNextRow artery.now after result }
 {
-    next_in(&ArteryTable, artery, after)
+    next_in(&Progression, artery, after)
 }

@@ -1,8 +1,8 @@
 //! Block sums at a point.
 
-ghost use Rattle.std.specs.Prelude.{◌≡◌, ◌<◌, ◌≤◌, length};
+ghost use Rattle.std.specs.Prelude.{◌≡◌, ◌≤◌, length};
 ghost use Rattle.narrow_fraction.specs.Attempt.{attempt};
-ghost use Rattle.progression.specs.{Street.{count}, Columns.{WaitOf, RunOf, ShiftOf}};
+ghost use Rattle.progression.specs.{Street.{count, HasLink, HasSignal}, Columns.{WaitOf, RunOf, ShiftOf}};
 ghost use Rattle.linear_theory.specs.{Places.{width, value_at}, Blocks.{block_sum}};
 ghost use Rattle.loop_rows.specs.Totals.{after_step, step_wide, after_steps, first_wide, block_wide};
 
@@ -42,8 +42,7 @@ fn put_all(first: Frac, steps: &[Step]) -> Result<Frac, Wide>
 
 /// A signal's wait at a point.
 fn wait_at(artery: &Artery, point: &Point, dir: Dir, signal: u32) -> Frac
-    requires first { 1 ≤ signal }
-    requires last { signal ≤ count artery.now }
+    requires signal { HasSignal artery.now signal }
     requires columns { width (count artery.now) ≤ length point.now.values.items }
     ensures { result ≡ value_at (count artery.now) point.now.values.items (WaitOf dir signal) }
 {
@@ -52,8 +51,7 @@ fn wait_at(artery: &Artery, point: &Point, dir: Dir, signal: u32) -> Frac
 
 /// A link's run at a point.
 fn run_at(artery: &Artery, point: &Point, dir: Dir, link: u32) -> Frac
-    requires first { 1 ≤ link }
-    requires last { link < count artery.now }
+    requires link { HasLink artery.now link }
     requires columns { width (count artery.now) ≤ length point.now.values.items }
     ensures { result ≡ value_at (count artery.now) point.now.values.items (RunOf dir link) }
 {
@@ -62,8 +60,7 @@ fn run_at(artery: &Artery, point: &Point, dir: Dir, link: u32) -> Frac
 
 /// A signal's shift at a point.
 fn shift_of(artery: &Artery, point: &Point, signal: u32) -> Frac
-    requires first { 1 ≤ signal }
-    requires last { signal ≤ count artery.now }
+    requires signal { HasSignal artery.now signal }
     requires columns { width (count artery.now) ≤ length point.now.values.items }
     ensures { result ≡ value_at (count artery.now) point.now.values.items (ShiftOf signal) }
 {
@@ -74,8 +71,7 @@ fn shift_of(artery: &Artery, point: &Point, signal: u32) -> Frac
 /// clearances, added and taken away one after another. The refusal is that of the first of these operations that leaves
 /// 128 bits.
 pub fn block_sum(artery: &Artery, point: &Point, link: u32) -> Result<Frac, Wide>
-    requires first { 1 ≤ link }
-    requires last { link < count artery.now }
+    requires link { HasLink artery.now link }
     requires columns { width (count artery.now) ≤ length point.now.values.items }
     ensures { result ≡ attempt (block_wide artery.now point.now.values.items link) (block_sum artery.now point.now.values.items link) }
 {

@@ -8,7 +8,8 @@ use Rattle.std.proofs.Common.{true≢false}
 use Rattle.std.proofs.lemmas.Int.{ints}
 use Rattle.progression.specs.Street.{Street, count, HasSignal, HasLink, allows}
 use Rattle.progression.specs.Speeds.{number, run_low, run_high}
-use Rattle.progression.specs.TimingRecord.{TimingRecord, IsTimingRecord, cycle, pattern_of, run, band}
+use Rattle.progression.specs.BaseRecord.{BaseRecord, IsBaseRecord, cycle, pattern_of, run}
+use Rattle.progression.specs.TimingRecord.{TimingRecord, base, band}
 use Rattle.progression.specs.Good.{Good, IsBase, RatioHolds, HasLeastBand}
 use Rattle.progression.specs.Best.{weighted_band}
 use Rattle.progression.specs.Green.{is_green, red_start, red_ticks}
@@ -62,19 +63,19 @@ pub both : (P : Dir → Type 0) → P Outbound → P Inbound → (d : Dir) → P
 both P p q Outbound = p
 both P p q Inbound = q
 
--- the rules that don't speak of bands, from those of the two signals and of the link
-module _ (a : Street) (p : TimingRecord) (two : count a ≡ 2) where
+-- the rules of a base, from those of the two signals and of the link
+module _ (a : Street) (p : BaseRecord) (two : count a ≡ 2) where
   abbrev IsFast : Dir → Type 0
   IsFast d = (run_low a d 1 *ℚ number p.grid) ≤ℚ number (run p d 1)
 
   abbrev IsSlow : Dir → Type 0
   IsSlow d = number (run p d 1) ≤ℚ (run_high a d 1 *ℚ number p.grid)
 
-  base_of : IsTimingRecord p → length p.patterns ≡ count a → IsTrue (allows a 1 (pattern_of p 1)) → IsTrue (allows a 2 (pattern_of p 2))
+  base_of : IsBaseRecord p → length p.patterns ≡ count a → IsTrue (allows a 1 (pattern_of p 1)) → IsTrue (allows a 2 (pattern_of p 2))
       → (a.head.cycle.least *ℚ number p.grid) ≤ℚ number (cycle a p) → number (cycle a p) ≤ℚ (a.head.cycle.most *ℚ number p.grid)
       → IsFast Outbound → IsFast Inbound → IsSlow Outbound → IsSlow Inbound → IsBase a p
-  base_of plan shape allowed_first allowed_last least most fast_out fast_in slow_out slow_in = record {
-    plan = plan;
+  base_of formed shape allowed_first allowed_last least most fast_out fast_in slow_out slow_in = record {
+    formed = formed;
     shape = shape;
     patterns = at_signal a two (λ i. IsTrue (allows a i (pattern_of p i))) allowed_first allowed_last;
     cycle_least = least;
@@ -93,7 +94,7 @@ good : (first_out : ℤ) (band_out band_in : ℕ)
     → Good two_signals (timing 2 100 first_out band_out band_in)
 unfolding whole over inverse_ℚ ◌*ℚ◌ gcd
 good first_out band_out band_in r out back = record {
-  base = base_of two_signals (timing 2 100 first_out band_out band_in) refl
+  base = base_of two_signals (base (timing 2 100 first_out band_out band_in)) refl
       (record { grid = omega arith; unit = omega arith; reds = refl; run_out = refl; run_in = refl }) refl refl refl
       (record { cross = omega (arith, ints) }) (record { cross = omega (arith, ints) })
       (record { cross = omega (arith, ints) }) (record { cross = omega (arith, ints) }) (record { cross = omega (arith, ints) }) (record { cross = omega (arith, ints) });
@@ -107,7 +108,7 @@ good first_out band_out band_in r out back = record {
 -- whether the line of the band that comes t ticks after its first crosses the j-th signal in green
 abbrev tick_test : Street → TimingRecord → Dir → ℕ → ℕ → Bool
 tick_test a p d j t = let i = stop d (count a) j in
-    is_green (cycle a p) (red_start a p d i) (red_ticks a p d i) (crossing a p d j +ℤ pos t)
+    is_green (cycle a (base p)) (red_start a (base p) d i) (red_ticks a (base p) d i) (crossing a p d j +ℤ pos t)
 
 by_test : (a : Street) (p : TimingRecord) (d : Dir) (j : ℕ) → all_below (tick_test a p d j) (suc (band p d)) ≡ true → IsGreenAt a p d j
 by_test a p d j e = λ t l. each_to (tick_test a p d j) (band p d) t e l
@@ -153,7 +154,7 @@ lagging_left g = true≢false (sym (g.outbound 1 (omega arith) 81 (omega arith))
 pub leading_lefts : Good with_lefts (one_way 3)
 unfolding whole over inverse_ℚ ◌+ℚ◌ neg_ℚ ◌*ℚ◌ gcd
 leading_lefts = let p = one_way 3 in record {
-  base = base_of with_lefts p refl
+  base = base_of with_lefts (base p) refl
       (record { grid = omega arith; unit = omega arith; reds = refl; run_out = refl; run_in = refl }) refl refl refl
       (record { cross = omega (arith, ints) }) (record { cross = omega (arith, ints) })
       (record { cross = omega (arith, ints) }) (record { cross = omega (arith, ints) }) (record { cross = omega (arith, ints) }) (record { cross = omega (arith, ints) });
@@ -177,7 +178,7 @@ turning : (pattern red first_out band_out first_in band_in : ℕ)
     → Good unequal_lefts (two_way pattern red first_out band_out first_in band_in)
 unfolding whole over inverse_ℚ ◌+ℚ◌ neg_ℚ ◌*ℚ◌ gcd
 turning pattern red first_out band_out first_in band_in allowed r out back = let p = two_way pattern red first_out band_out first_in band_in in record {
-  base = base_of unequal_lefts p refl
+  base = base_of unequal_lefts (base p) refl
       (record { grid = omega arith; unit = omega arith; reds = refl; run_out = refl; run_in = refl }) refl refl allowed
       (record { cross = omega (arith, ints) }) (record { cross = omega (arith, ints) })
       (record { cross = omega (arith, ints) }) (record { cross = omega (arith, ints) }) (record { cross = omega (arith, ints) }) (record { cross = omega (arith, ints) });

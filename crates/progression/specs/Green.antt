@@ -1,7 +1,7 @@
 -- Reds are open intervals that come again each cycle, greens are closed: the first tick of a red is green, and so is the tick at which it ends.
 use Rattle.std.specs.Prelude.{ℕ, ◌-◌, ◌*◌, ◌%◌, ◌≤◌, ◌==◌, nat_le, ◌||◌, Bool, IsTrue, ℤ, pos, negsuc, ◌+ℤ◌, ◌-ℤ◌, if◌then◌else◌}
 use Rattle.progression.specs.Street.{Street, red_parts, left_against}
-use Rattle.progression.specs.TimingRecord.{TimingRecord, pattern_of, common_red}
+use Rattle.progression.specs.BaseRecord.{BaseRecord, pattern_of, common_red}
 use Rattle.progression.specs.declared.parts.Dir.{Dir}
 use Rattle.progression.specs.declared.parts.Dir.TheVariants.{Outbound, Inbound}
 
@@ -31,12 +31,12 @@ is_early Outbound p = (p == 1) || (p == 4)
 is_early Inbound p = (p == 2) || (p == 4)
 
 -- how many ticks before the common red the direction's red begins
-abbrev pub ahead : Street → TimingRecord → Dir → ℕ → ℕ
-ahead a t d i = if is_early d (pattern_of t i) then left_against a d i * t.unit else 0
+abbrev pub ahead : Street → BaseRecord → Dir → ℕ → ℕ
+ahead a b d i = if is_early d (pattern_of b i) then left_against a d i * b.unit else 0
 
 -- where the direction's red begins, and how many ticks long it is
-abbrev pub red_start : Street → TimingRecord → Dir → ℕ → ℤ
-red_start a t d i = common_red t i -ℤ pos (ahead a t d i)
+abbrev pub red_start : Street → BaseRecord → Dir → ℕ → ℤ
+red_start a b d i = common_red b i -ℤ pos (ahead a b d i)
 
-abbrev pub red_ticks : Street → TimingRecord → Dir → ℕ → ℕ
-red_ticks a t d i = red_parts a d i * t.unit
+abbrev pub red_ticks : Street → BaseRecord → Dir → ℕ → ℕ
+red_ticks a b d i = red_parts a d i * b.unit

@@ -1,9 +1,11 @@
 pub mod Street
 pub mod Speeds
+pub mod BaseRecord
 pub mod TimingRecord
 pub mod Green
 pub mod Lines
 pub mod Good
+pub mod Objectives
 pub mod Best
 pub mod Columns
 pub mod Worked

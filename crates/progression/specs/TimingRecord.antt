@@ -1,44 +1,39 @@
--- A timing record: whole numbers on a time grid of its own, of any size.
-use Rattle.std.specs.Prelude.{◌≡◌, ℕ, ◌+◌, ◌-◌, ◌*◌, ◌≤◌, List, length, ℤ, pos, slice_index, slice_index_or}
-use Rattle.progression.specs.Street.{Street}
+-- A timing record: a base, and the first line and the width of a band in each direction.
+use Rattle.std.specs.Prelude.{ℕ, List, ℤ}
+use Rattle.progression.specs.BaseRecord.{BaseRecord}
 use Rattle.progression.specs.declared.parts.Dir.{Dir}
 use Rattle.progression.specs.declared.parts.Dir.TheVariants.{Outbound, Inbound}
 
 pub record TimingRecord : Type 0 where
-  pub grid : ℕ  -- ticks in a second
-  pub unit : ℕ  -- ticks in a part
-  pub patterns : List ℕ  -- each signal's left turn pattern
-  pub reds : List ℤ  -- the tick at which each signal's common red starts
-  pub run_out : List ℕ  -- the ticks from each signal to the next
-  pub run_in : List ℕ  -- the ticks of the same links inbound
+  pub grid : ℕ  -- the numbers of its base, one by one
+  pub unit : ℕ
+  pub patterns : List ℕ
+  pub reds : List ℤ
+  pub run_out : List ℕ
+  pub run_in : List ℕ
   pub first_out : ℤ  -- where the first outbound line crosses signal 1
   pub first_in : ℤ  -- where the first inbound line crosses the last signal
   pub band_out : ℕ  -- the widths of the bands, in ticks
   pub band_in : ℕ
 
--- A part has at least two ticks, so that each red has a tick inside it.
-pub record IsTimingRecord (t : TimingRecord) : Type 0 where
-  pub grid : 1 ≤ t.grid
-  pub unit : 2 ≤ t.unit
-  pub reds : length t.reds ≡ length t.patterns
-  pub run_out : length t.run_out + 1 ≡ length t.patterns
-  pub run_in : length t.run_in + 1 ≡ length t.patterns
+-- what no first line and no band is part of
+abbrev pub base : TimingRecord → BaseRecord
+base t = record { grid = t.grid; unit = t.unit; patterns = t.patterns; reds = t.reds; run_out = t.run_out; run_in = t.run_in }
 
--- the cycle in ticks
-abbrev pub cycle : Street → TimingRecord → ℕ
-cycle a t = a.head.parts * t.unit
-
--- The entry of a signal or link, and 0 past the end of a list: a timing that is good has one for each of the artery's, so
--- none of its rules reads past an end.
-abbrev pub pattern_of : TimingRecord → ℕ → ℕ
-pattern_of t i = slice_index t.patterns (i - 1)
-
-abbrev pub common_red : TimingRecord → ℕ → ℤ
-common_red t i = slice_index_or t.reds (i - 1) (pos 0)
-
-abbrev pub run : TimingRecord → Dir → ℕ → ℕ
-run t Outbound i = slice_index t.run_out (i - 1)
-run t Inbound i = slice_index t.run_in (i - 1)
+-- the timing of a base with an outbound and an inbound pair of a first line and a band
+abbrev pub banded : ℤ → ℕ → ℤ → ℕ → BaseRecord → TimingRecord
+banded first_out band_out first_in band_in b = record {
+  grid = b.grid;
+  unit = b.unit;
+  patterns = b.patterns;
+  reds = b.reds;
+  run_out = b.run_out;
+  run_in = b.run_in;
+  first_out = first_out;
+  first_in = first_in;
+  band_out = band_out;
+  band_in = band_in;
+}
 
 abbrev pub first : TimingRecord → Dir → ℤ
 first t Outbound = t.first_out

@@ -3,7 +3,7 @@
 ghost use Rattle.std.specs.Prelude.{◌≡◌, ◌+◌, ◌-◌, ◌*◌, ◌<◌, ◌≤◌, ◌^◌, ℕ, map, pos, neg_ℤ, ◌*ℤ◌, ◌≤ℤ◌, unsigned_abs, IfOk};
 ghost use Rattle.std.specs.Int.{int_div_euclid};
 ghost use Rattle.rational_theory.specs.Floor.{floor_ℚ, ceil_ℚ};
-ghost use Rattle.progression.specs.{Street.{count, HasSignal}, Columns.{numbered}};
+ghost use Rattle.progression.specs.{Street.{count, HasSignal, HasLink}, Columns.{numbered}};
 ghost use Rattle.linear_theory.specs.{Shifts.{shift_count}, Boxes.{root_span, root_ranks}};
 ghost use Rattle.search_box.specs.{Seen.{span_of, ranks_of}, Sums.{share_of, top_of, bottom_of, run_at, sum_at}};
 
@@ -121,8 +121,7 @@ fn ceiling(sum: Sum) -> i64
 
 /// The run on a link at an end, as a share of the cycle.
 fn run_at(artery: &Artery, end: End, dir: Dir, link: u32) -> Share
-    requires first { 1 ≤ link }
-    requires last { link < count artery.now }
+    requires link { HasLink artery.now link }
     ensures { share_of result ≡ run_at artery.now end dir link }
 {
     let cycle = artery.cycle();
@@ -134,8 +133,7 @@ fn run_at(artery: &Artery, end: End, dir: Dir, link: u32) -> Share
 
 /// The block sum of a link at an end, with each wait, run and shift by itself at the end of its range.
 fn sum_at(artery: &Artery, end: End, link: u32) -> Sum
-    requires first { 1 ≤ link }
-    requires last { link < count artery.now }
+    requires link { HasLink artery.now link }
     ensures floor { int_div_euclid result.top result.bottom ≡ floor_ℚ (sum_at artery.now end link) }
     ensures ceiling { neg_ℤ (int_div_euclid (neg_ℤ result.top) result.bottom) ≡ ceil_ℚ (sum_at artery.now end link) }
 {
@@ -152,8 +150,7 @@ fn sum_at(artery: &Artery, end: End, link: u32) -> Sum
 /// The whole numbers that the block sum of a link can be in a good timing: from the least sum, rounded up, to the
 /// greatest, rounded down, with each wait, run and shift by itself at the end of its range. There may be none.
 pub fn root_span(artery: &Artery, link: u32) -> Span
-    requires first { 1 ≤ link }
-    requires last { link < count artery.now }
+    requires link { HasLink artery.now link }
     ensures { span_of result ≡ root_span artery.now link }
 {
     Span {
@@ -164,8 +161,7 @@ pub fn root_span(artery: &Artery, link: u32) -> Span
 
 /// All ranks of a signal's shifts.
 fn root_ranks(artery: &Artery, signal: u32) -> RankSpan
-    requires first { 1 ≤ signal }
-    requires last { signal ≤ count artery.now }
+    requires signal { HasSignal artery.now signal }
     ensures value { ranks_of result ≡ root_ranks artery.now signal }
     ensures some { 1 ≤ shift_count artery.now signal }
 {

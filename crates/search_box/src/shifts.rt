@@ -1,7 +1,7 @@
 //! The distinct shifts of a signal's allowed patterns.
 
 ghost use Rattle.std.specs.{Prelude.{◌≡◌, ◌<◌, ◌≤◌, ◌+◌, IsTrue, length, slice_index}, List.{list_any}};
-ghost use Rattle.progression.specs.Street.{count, allows};
+ghost use Rattle.progression.specs.Street.{allows, HasSignal};
 ghost use Rattle.linear_theory.specs.Shifts.{put_shift, with_pattern, shifts_of, shift_at, shift_count};
 ghost use Rattle.search_box.specs.Rising.{list_of};
 
@@ -70,8 +70,7 @@ fn put_shift(shifts: Rising, n: u32) -> Rising
 
 /// With the shift of a pattern, where the signal allows it.
 fn with_pattern(artery: &Artery, signal: u32, pattern: u32, shifts: Rising) -> Rising
-    requires first { 1 ≤ signal }
-    requires last { signal ≤ count artery.now }
+    requires signal { HasSignal artery.now signal }
     requires least { 1 ≤ pattern }
     requires most { pattern ≤ 4 }
     requires room { length (list_of shifts) < 4 }
@@ -96,8 +95,7 @@ fn allows_one(patterns: &[bool; 4]) -> bool
 /// Whether a signal allows a pattern, as each does.
 #[tactic(auto, using(crate::proofs::Allowed::some_shift))]
 fn has_pattern(artery: &Artery, signal: u32) -> bool
-    requires first { 1 ≤ signal }
-    requires last { signal ≤ count artery.now }
+    requires signal { HasSignal artery.now signal }
     ensures some { IsTrue result }
     ensures least { 1 ≤ shift_count artery.now signal }
 {
@@ -108,8 +106,7 @@ fn has_pattern(artery: &Artery, signal: u32) -> bool
 
 /// The distinct shifts of a signal's allowed patterns, in parts.
 fn shifts_of(artery: &Artery, signal: u32) -> Rising
-    requires first { 1 ≤ signal }
-    requires last { signal ≤ count artery.now }
+    requires signal { HasSignal artery.now signal }
     ensures { list_of result ≡ shifts_of artery.now signal }
 {
     let one = with_pattern(artery, signal, 1, Rising::None);
@@ -147,8 +144,7 @@ fn at_rank(shifts: Rising, rank: u32) -> u32
 /// The shift of a rank, in parts: less than 7200.
 #[tactic(auto, using(linear_theory::proofs::ShiftSizes::shift_at_most))]
 pub fn shift_at(artery: &Artery, signal: u32, rank: u32) -> u32
-    requires first { 1 ≤ signal }
-    requires last { signal ≤ count artery.now }
+    requires signal { HasSignal artery.now signal }
     requires rank { rank < shift_count artery.now signal }
     ensures value { result ≡ shift_at artery.now signal rank }
     ensures small { result < 7200 }
@@ -159,8 +155,7 @@ pub fn shift_at(artery: &Artery, signal: u32, rank: u32) -> u32
 
 /// The number of a signal's distinct shifts, from 1 to 4.
 pub fn shift_count(artery: &Artery, signal: u32) -> u32
-    requires first { 1 ≤ signal }
-    requires last { signal ≤ count artery.now }
+    requires signal { HasSignal artery.now signal }
     ensures value { result ≡ shift_count artery.now signal }
     ensures least { 1 ≤ result }
     ensures most { result ≤ 4 }

@@ -1,7 +1,7 @@
 //! The whole parts of the least and of the greatest block sum of a link.
 
-ghost use Rattle.std.specs.Prelude.{◌≡◌, ◌+◌, ◌-◌, ◌*◌, ◌<◌, ◌≤◌, ◌^◌, pos, ◌-ℤ◌, unsigned_abs};
-ghost use Rattle.progression.specs.Street.{count, signal_of, red_parts, clearance};
+ghost use Rattle.std.specs.Prelude.{◌≡◌, ◌+◌, ◌-◌, ◌*◌, ◌<◌, ◌^◌, pos, ◌-ℤ◌, unsigned_abs};
+ghost use Rattle.progression.specs.Street.{count, signal_of, red_parts, clearance, HasLink, HasSignal};
 ghost use Rattle.linear_theory.specs.Shifts.{shift_at, shift_count};
 ghost use Rattle.search_box.specs.Sums.{parts_at};
 
@@ -11,8 +11,7 @@ use progression::Dir;
 
 /// The least shift of a signal, in parts.
 fn least_shift(artery: &Artery, signal: u32) -> u32
-    requires first { 1 ≤ signal }
-    requires last { signal ≤ count artery.now }
+    requires signal { HasSignal artery.now signal }
     ensures value { result ≡ shift_at artery.now signal 0 }
     ensures small { result < 7200 }
 {
@@ -22,8 +21,7 @@ fn least_shift(artery: &Artery, signal: u32) -> u32
 
 /// The greatest shift of a signal, in parts.
 fn greatest_shift(artery: &Artery, signal: u32) -> u32
-    requires first { 1 ≤ signal }
-    requires last { signal ≤ count artery.now }
+    requires signal { HasSignal artery.now signal }
     ensures value { result ≡ shift_at artery.now signal (shift_count artery.now signal - 1) }
     ensures small { result < 7200 }
 {
@@ -43,10 +41,8 @@ fn difference(more: u32, less: u32) -> i128
 /// What the waits at a signal and the two shifts add at most: the greens that are left there and its greatest shift, less the
 /// least shift of the link's other signal.
 fn waits_and_shifts(artery: &Artery, signal: u32, other: u32) -> i128
-    requires first { 1 ≤ signal }
-    requires last { signal ≤ count artery.now }
-    requires other_first { 1 ≤ other }
-    requires other_last { other ≤ count artery.now }
+    requires signal { HasSignal artery.now signal }
+    requires other { HasSignal artery.now other }
     ensures value { result ≡ pos (2 * artery.now.head.parts + shift_at artery.now signal (shift_count artery.now signal - 1))
         -ℤ pos (red_parts artery.now Dir.Outbound signal + red_parts artery.now Dir.Inbound signal + shift_at artery.now other 0) }
     ensures size { unsigned_abs result < 2 ^ 15 }
@@ -58,8 +54,7 @@ fn waits_and_shifts(artery: &Artery, signal: u32, other: u32) -> i128
 
 /// What the common reds and the clearances add: these are of the direction that arrives at each of the link's ends.
 fn reds_and_clearances(artery: &Artery, link: u32) -> i128
-    requires first { 1 ≤ link }
-    requires last { link < count artery.now }
+    requires link { HasLink artery.now link }
     ensures value { result ≡ pos (signal_of artery.now link).red
         -ℤ pos ((signal_of artery.now (link + 1)).red + clearance artery.now Dir.Outbound (link + 1) + clearance artery.now Dir.Inbound link) }
     ensures size { unsigned_abs result < 2 ^ 15 }
@@ -82,8 +77,7 @@ pub(crate) enum End {
 /// The parts in the block sum of a link at an end: in the least one the waits and the shift are greatest at the next signal, in
 /// the greatest one at its own.
 pub(crate) fn parts_at(artery: &Artery, end: End, link: u32) -> i128
-    requires first { 1 ≤ link }
-    requires last { link < count artery.now }
+    requires link { HasLink artery.now link }
     ensures value { result ≡ parts_at artery.now end link }
     ensures size { unsigned_abs result < 2 ^ 16 }
 {

@@ -1,7 +1,8 @@
 -- Where a band isn't green: the signal, and the first tick there.
 use Rattle.std.specs.Prelude.{◌≡◌, ℕ, ◌<◌, ℤ, pos, ◌+ℤ◌}
 use Rattle.progression.specs.Street.{Street, count}
-use Rattle.progression.specs.TimingRecord.{TimingRecord, cycle, band}
+use Rattle.progression.specs.TimingRecord.{TimingRecord, base, band}
+use Rattle.progression.specs.BaseRecord.{cycle}
 use Rattle.progression.specs.Green.{red_start, red_ticks}
 use Rattle.progression.specs.Lines.{stop, crossing, IsGreenAt}
 use Rattle.time_space.specs.FirstRed.{IsFirstRed}
@@ -10,7 +11,7 @@ use Rattle.progression.specs.declared.parts.Dir.{Dir}
 -- at the j-th signal in travel order the first tick that isn't green comes so long after the band's first line
 abbrev pub IsBlockedAt : Street → TimingRecord → Dir → ℕ → ℕ → Type 0
 IsBlockedAt a t d j after = let i = stop d (count a) j in
-    IsFirstRed (cycle a t) (red_start a t d i) (red_ticks a t d i) (crossing a t d j) (band t d) after
+    IsFirstRed (cycle a (base t)) (red_start a (base t) d i) (red_ticks a (base t) d i) (crossing a t d j) (band t d) after
 
 -- the signal, and the first tick of the band there that isn't green
 pub record IsBlocked (a : Street) (t : TimingRecord) (d : Dir) (j signal : ℕ) (tick : ℤ) : Type 0 where

@@ -1,10 +1,11 @@
 -- The order of the failings: by rule, then outbound before inbound, then by place.
 use Rattle.std.specs.Prelude.{◌≡◌, ℕ, ◌-◌, ◌≤◌}
 use Rattle.progression.specs.Street.{Street, count}
+use Rattle.progression.specs.BaseRecord.{BaseRecord}
 use Rattle.progression.specs.TimingRecord.{TimingRecord}
 use Rattle.progression.specs.declared.parts.Dir.{Dir}
 use Rattle.progression.specs.declared.parts.Dir.TheVariants.{Outbound, Inbound}
-use Rattle.time_space.specs.Failing.{Fails}
+use Rattle.time_space.specs.Failing.{BaseFails, Fails}
 use Rattle.time_space.specs.declared.links.LinkRule.{LinkRule}
 use Rattle.time_space.specs.declared.links.LinkRule.TheVariants as rule
 use Rattle.time_space.specs.declared.failing.Failing.{Failing}
@@ -56,18 +57,20 @@ pub record IsNoLater (a : Street) (f g : Failing) : Type 0 where
   pub direction : rule_order f ≡ rule_order g → direction_order f ≤ direction_order g
   pub place : rule_order f ≡ rule_order g → direction_order f ≡ direction_order g → place_order a f ≤ place_order a g
 
--- it fails, and of all that fail none comes before it
-pub record IsFirstFailing (a : Street) (t : TimingRecord) (f : Failing) : Type 0 where
-  pub fails : Fails a t f
-  pub first : (g : Failing) → Fails a t g → IsNoLater a f g
+-- of the failings that fail it is one, and none comes before it
+pub record IsFirstOf (a : Street) (Fail : Failing → Type 0) (f : Failing) : Type 0 where
+  pub fails : Fail f
+  pub first : (g : Failing) → Fail g → IsNoLater a f g
 
--- the last rule that speaks of no band
-abbrev pub last_base_rule : ℕ
-last_base_rule = 7
+abbrev pub IsFirstBaseFailing : Street → BaseRecord → Failing → Type 0
+IsFirstBaseFailing a b = IsFirstOf a (BaseFails a b)
 
--- no rule before the n-th fails
-abbrev pub NoneBefore : Street → TimingRecord → ℕ → Type 0
-NoneBefore a t n = (g : Failing) → Fails a t g → n ≤ rule_order g
+abbrev pub IsFirstFailing : Street → TimingRecord → Failing → Type 0
+IsFirstFailing a t = IsFirstOf a (Fails a t)
+
+-- none that fails is of a rule before the n-th
+abbrev pub NoneBefore : (Failing → Type 0) → ℕ → Type 0
+NoneBefore Fail n = (g : Failing) → Fail g → n ≤ rule_order g
 
 abbrev pub link_order : LinkRule → ℕ
 link_order rule.Fast = 4

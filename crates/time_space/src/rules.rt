@@ -1,14 +1,15 @@
 //! The test of a timing against the rules of an artery, rule after rule.
 
-ghost use Rattle.std.specs.Prelude.{◌≡◌, ◌↔◌, ◌+◌, ◌≤◌, ℕ, length, IsTrue, OnOk, IfErr};
+ghost use Rattle.std.specs.Prelude.{◌≡◌, ◌↔◌, ◌+◌, ℕ, IsTrue, OnOk, IfErr};
 ghost use Rattle.rational_theory.specs.Rational.{◌*ℚ◌, ◌≤ℚ◌};
-ghost use Rattle.progression.specs.{Street.{count, allows, HasSignal}, Speeds.{number}, TimingRecord.{IsTimingRecord, cycle, pattern_of}};
+ghost use Rattle.progression.specs.{Street.{count, allows, HasSignal}, Speeds.{number}, BaseRecord.{IsBaseRecord, cycle, pattern_of}, TimingRecord.{base}};
 ghost use Rattle.progression.specs.{Lines.{IsGreenWay}, Good.{Good, IsBase, RatioHolds, HasLeastBand, HasEqualBands}};
 ghost use Rattle.progression.specs.declared.parts.Dir.{Dir};
-ghost use Rattle.time_space.specs.{LinkRules.{AllLinks}, Failing.{FailsRulesOut}, Finer.{FinerGrids}};
+ghost use Rattle.time_space.specs.{LinkRules.{AllLinks}, Failing.{BaseFails, Fails, FailsRulesOut}, Finer.{FinerGrids}, Timing.{IsFor}};
 ghost use Rattle.time_space.specs.Reds.{RedsAreIntervals, SinceLastStart};
-ghost use Rattle.time_space.specs.FirstFailing.{OneFirst, IsFirstFailing, NoneBefore, rule_order, last_base_rule, link_order, link_failing};
+ghost use Rattle.time_space.specs.FirstFailing.{OneFirst, IsFirstBaseFailing, IsFirstFailing, NoneBefore, link_order, link_failing};
 
+use crate::base::Base;
 use crate::diagram::{cycle, first_blocked};
 use crate::failing::Failing;
 use crate::limits::{is_at_least, is_at_most, is_in_ratio};
@@ -18,14 +19,13 @@ use artery_model::Artery;
 use progression::Dir;
 
 #[tactic(auto, using(crate::proofs::Firsts::after_shape, crate::proofs::Firsts::none_before, crate::proofs::Firsts::first_lone))]
-fn check_shape(artery: &Artery, timing: &Timing) -> Result<(), Failing>
-    ensures plan { IsTimingRecord timing.now }
-    ensures kept { OnOk result (length timing.now.patterns ≡ count artery.now) }
-    ensures next { OnOk result (NoneBefore artery.now timing.now 1) }
-    ensures first { IfErr result (λ f. IsFirstFailing artery.now timing.now f) }
-    ensures order { IfErr result (λ f. rule_order f ≤ last_base_rule) }
+fn check_shape(artery: &Artery, base: &Base) -> Result<(), Failing>
+    ensures formed { IsBaseRecord base.now }
+    ensures kept { OnOk result (IsFor artery.now base.now) }
+    ensures next { OnOk result (NoneBefore (BaseFails artery.now base.now) 1) }
+    ensures first { IfErr result (λ f. IsFirstBaseFailing artery.now base.now f) }
 {
-    if timing.count() == artery.count() {
+    if base.count() == artery.count() {
         Ok(())
     } else {
         Err(Failing::Shape)
@@ -33,16 +33,15 @@ fn check_shape(artery: &Artery, timing: &Timing) -> Result<(), Failing>
 }
 
 #[tactic(auto, using(crate::proofs::Firsts::after_patterns, crate::proofs::Firsts::first_pattern))]
-fn check_patterns(artery: &Artery, timing: &Timing) -> Result<(), Failing>
-    requires shape { length timing.now.patterns ≡ count artery.now }
-    requires before { NoneBefore artery.now timing.now 1 }
-    ensures kept { OnOk result ((i : ℕ) → HasSignal artery.now i → IsTrue (allows artery.now i (pattern_of timing.now i))) }
-    ensures next { OnOk result (NoneBefore artery.now timing.now 2) }
-    ensures first { IfErr result (λ f. IsFirstFailing artery.now timing.now f) }
-    ensures order { IfErr result (λ f. rule_order f ≤ last_base_rule) }
+fn check_patterns(artery: &Artery, base: &Base) -> Result<(), Failing>
+    requires shape { IsFor artery.now base.now }
+    requires before { NoneBefore (BaseFails artery.now base.now) 1 }
+    ensures kept { OnOk result ((i : ℕ) → HasSignal artery.now i → IsTrue (allows artery.now i (pattern_of base.now i))) }
+    ensures next { OnOk result (NoneBefore (BaseFails artery.now base.now) 2) }
+    ensures first { IfErr result (λ f. IsFirstBaseFailing artery.now base.now f) }
 {
     for signal in 1..artery.count() + 1 {
-        if !artery.allows(signal, timing.pattern(signal)) {
+        if !artery.allows(signal, base.pattern(signal)) {
             return Err(Failing::Pattern { signal });
         }
     }
@@ -50,14 +49,13 @@ fn check_patterns(artery: &Artery, timing: &Timing) -> Result<(), Failing>
 }
 
 #[tactic(auto, using(crate::proofs::Firsts::after_cycle_least, crate::proofs::Firsts::first_lone))]
-fn check_cycle_least(artery: &Artery, timing: &Timing) -> Result<(), Failing>
-    requires before { NoneBefore artery.now timing.now 2 }
-    ensures kept { OnOk result ((artery.now.head.cycle.least *ℚ number timing.now.grid) ≤ℚ number (cycle artery.now timing.now)) }
-    ensures next { OnOk result (NoneBefore artery.now timing.now 3) }
-    ensures first { IfErr result (λ f. IsFirstFailing artery.now timing.now f) }
-    ensures order { IfErr result (λ f. rule_order f ≤ last_base_rule) }
+fn check_cycle_least(artery: &Artery, base: &Base) -> Result<(), Failing>
+    requires before { NoneBefore (BaseFails artery.now base.now) 2 }
+    ensures kept { OnOk result ((artery.now.head.cycle.least *ℚ number base.now.grid) ≤ℚ number (cycle artery.now base.now)) }
+    ensures next { OnOk result (NoneBefore (BaseFails artery.now base.now) 3) }
+    ensures first { IfErr result (λ f. IsFirstBaseFailing artery.now base.now f) }
 {
-    if is_at_least(cycle(artery, timing), artery.cycle().least, timing.grid()) {
+    if is_at_least(base.cycle(artery), artery.cycle().least, base.grid()) {
         Ok(())
     } else {
         Err(Failing::CycleShort)
@@ -65,14 +63,13 @@ fn check_cycle_least(artery: &Artery, timing: &Timing) -> Result<(), Failing>
 }
 
 #[tactic(auto, using(crate::proofs::Firsts::after_cycle_most, crate::proofs::Firsts::first_lone))]
-fn check_cycle_most(artery: &Artery, timing: &Timing) -> Result<(), Failing>
-    requires before { NoneBefore artery.now timing.now 3 }
-    ensures kept { OnOk result (number (cycle artery.now timing.now) ≤ℚ (artery.now.head.cycle.most *ℚ number timing.now.grid)) }
-    ensures next { OnOk result (NoneBefore artery.now timing.now 4) }
-    ensures first { IfErr result (λ f. IsFirstFailing artery.now timing.now f) }
-    ensures order { IfErr result (λ f. rule_order f ≤ last_base_rule) }
+fn check_cycle_most(artery: &Artery, base: &Base) -> Result<(), Failing>
+    requires before { NoneBefore (BaseFails artery.now base.now) 3 }
+    ensures kept { OnOk result (number (cycle artery.now base.now) ≤ℚ (artery.now.head.cycle.most *ℚ number base.now.grid)) }
+    ensures next { OnOk result (NoneBefore (BaseFails artery.now base.now) 4) }
+    ensures first { IfErr result (λ f. IsFirstBaseFailing artery.now base.now f) }
 {
-    if is_at_most(cycle(artery, timing), artery.cycle().most, timing.grid()) {
+    if is_at_most(base.cycle(artery), artery.cycle().most, base.grid()) {
         Ok(())
     } else {
         Err(Failing::CycleLong)
@@ -82,7 +79,6 @@ fn check_cycle_most(artery: &Artery, timing: &Timing) -> Result<(), Failing>
 /// The failing of a limit on a link.
 fn link_failing(rule: LinkRule, dir: Dir, link: u32) -> Failing
     ensures value { result ≡ link_failing rule dir link }
-    ensures order { rule_order result ≤ last_base_rule }
 {
     match rule {
         LinkRule::Fast => Failing::Fast { dir, link },
@@ -92,18 +88,17 @@ fn link_failing(rule: LinkRule, dir: Dir, link: u32) -> Failing
     }
 }
 
-fn check_links(artery: &Artery, timing: &Timing, rule: LinkRule) -> Result<(), Failing>
-    requires shape { length timing.now.patterns ≡ count artery.now }
-    requires before { NoneBefore artery.now timing.now (link_order rule) }
-    ensures kept { OnOk result ((d : Dir) → AllLinks artery.now timing.now rule d) }
-    ensures next { OnOk result (NoneBefore artery.now timing.now (link_order rule + 1)) }
-    ensures first { IfErr result (λ f. IsFirstFailing artery.now timing.now f) }
-    ensures order { IfErr result (λ f. rule_order f ≤ last_base_rule) }
+fn check_links(artery: &Artery, base: &Base, rule: LinkRule) -> Result<(), Failing>
+    requires shape { IsFor artery.now base.now }
+    requires before { NoneBefore (BaseFails artery.now base.now) (link_order rule) }
+    ensures kept { OnOk result ((d : Dir) → AllLinks artery.now base.now rule d) }
+    ensures next { OnOk result (NoneBefore (BaseFails artery.now base.now) (link_order rule + 1)) }
+    ensures first { IfErr result (λ f. IsFirstBaseFailing artery.now base.now f) }
 {
-    if let Some(link) = first_broken(artery, timing, rule, Dir::Outbound) {
+    if let Some(link) = first_broken(artery, base, rule, Dir::Outbound) {
         return Err(link_failing(rule, Dir::Outbound, link));
     }
-    if let Some(link) = first_broken(artery, timing, rule, Dir::Inbound) {
+    if let Some(link) = first_broken(artery, base, rule, Dir::Inbound) {
         return Err(link_failing(rule, Dir::Inbound, link));
     }
     Ok(())
@@ -111,9 +106,9 @@ fn check_links(artery: &Artery, timing: &Timing, rule: LinkRule) -> Result<(), F
 
 #[tactic(auto, using(crate::proofs::Firsts::after_ratio, crate::proofs::Firsts::first_lone))]
 fn check_ratio(artery: &Artery, timing: &Timing) -> Result<(), Failing>
-    requires before { NoneBefore artery.now timing.now 8 }
+    requires before { NoneBefore (Fails artery.now timing.now) 8 }
     ensures kept { OnOk result (RatioHolds artery.now.head.ratio timing.now.band_out timing.now.band_in) }
-    ensures next { OnOk result (NoneBefore artery.now timing.now 9) }
+    ensures next { OnOk result (NoneBefore (Fails artery.now timing.now) 9) }
     ensures first { IfErr result (λ f. IsFirstFailing artery.now timing.now f) }
 {
     if is_in_ratio(
@@ -137,9 +132,9 @@ fn has_least_band(artery: &Artery, timing: &Timing, dir: Dir) -> bool
 
 #[tactic(auto, using(crate::proofs::Firsts::after_least, crate::proofs::Firsts::both_least, crate::proofs::Firsts::first_lone, crate::proofs::Firsts::first_least_in))]
 fn check_least(artery: &Artery, timing: &Timing) -> Result<(), Failing>
-    requires before { NoneBefore artery.now timing.now 9 }
+    requires before { NoneBefore (Fails artery.now timing.now) 9 }
     ensures kept { OnOk result ((d : Dir) → HasLeastBand artery.now timing.now d) }
-    ensures next { OnOk result (NoneBefore artery.now timing.now 10) }
+    ensures next { OnOk result (NoneBefore (Fails artery.now timing.now) 10) }
     ensures first { IfErr result (λ f. IsFirstFailing artery.now timing.now f) }
 {
     if !has_least_band(artery, timing, Dir::Outbound) {
@@ -160,9 +155,9 @@ fn has_equal_bands(artery: &Artery, timing: &Timing) -> bool
 
 #[tactic(auto, using(crate::proofs::Firsts::after_equal, crate::proofs::Firsts::first_lone))]
 fn check_equal(artery: &Artery, timing: &Timing) -> Result<(), Failing>
-    requires before { NoneBefore artery.now timing.now 10 }
+    requires before { NoneBefore (Fails artery.now timing.now) 10 }
     ensures kept { OnOk result (HasEqualBands artery.now timing.now) }
-    ensures next { OnOk result (NoneBefore artery.now timing.now 11) }
+    ensures next { OnOk result (NoneBefore (Fails artery.now timing.now) 11) }
     ensures first { IfErr result (λ f. IsFirstFailing artery.now timing.now f) }
 {
     if has_equal_bands(artery, timing) {
@@ -174,10 +169,10 @@ fn check_equal(artery: &Artery, timing: &Timing) -> Result<(), Failing>
 
 #[tactic(auto, using(crate::proofs::Firsts::after_outbound, crate::proofs::Firsts::first_outbound))]
 fn check_outbound(artery: &Artery, timing: &Timing) -> Result<(), Failing>
-    requires shape { length timing.now.patterns ≡ count artery.now }
-    requires before { NoneBefore artery.now timing.now 11 }
+    requires shape { IsFor artery.now (base timing.now) }
+    requires before { NoneBefore (Fails artery.now timing.now) 11 }
     ensures kept { OnOk result (IsGreenWay artery.now timing.now Dir.Outbound) }
-    ensures next { OnOk result (NoneBefore artery.now timing.now 12) }
+    ensures next { OnOk result (NoneBefore (Fails artery.now timing.now) 12) }
     ensures first { IfErr result (λ f. IsFirstFailing artery.now timing.now f) }
 {
     match first_blocked(artery, timing, Dir::Outbound) {
@@ -188,8 +183,8 @@ fn check_outbound(artery: &Artery, timing: &Timing) -> Result<(), Failing>
 
 #[tactic(auto, using(crate::proofs::Firsts::first_inbound))]
 fn check_inbound(artery: &Artery, timing: &Timing) -> Result<(), Failing>
-    requires shape { length timing.now.patterns ≡ count artery.now }
-    requires before { NoneBefore artery.now timing.now 12 }
+    requires shape { IsFor artery.now (base timing.now) }
+    requires before { NoneBefore (Fails artery.now timing.now) 12 }
     ensures kept { OnOk result (IsGreenWay artery.now timing.now Dir.Inbound) }
     ensures first { IfErr result (λ f. IsFirstFailing artery.now timing.now f) }
 {
@@ -199,30 +194,49 @@ fn check_inbound(artery: &Artery, timing: &Timing) -> Result<(), Failing>
     }
 }
 
-/// Whether the timing keeps the rules that speak of no band, which are those of patterns, cycle, runs and changes of pace: Ok
-/// where it does, and else the first rule that it breaks. Its firsts and bands play no part.
-pub fn base_holds(artery: &Artery, timing: &Timing) -> Result<(), Failing>
-    ensures base { OnOk result (IsBase artery.now timing.now) }
-    ensures shape { OnOk result (length timing.now.patterns ≡ count artery.now) }
-    ensures next { OnOk result (NoneBefore artery.now timing.now (last_base_rule + 1)) }
-    ensures refused { IfErr result (λ f. ¬ IsBase artery.now timing.now) }
-    ensures first { IfErr result (λ f. IsFirstFailing artery.now timing.now f) }
-    ensures order { IfErr result (λ f. rule_order f ≤ last_base_rule) }
+/// Whether the base keeps its rules, which are those of patterns, cycle, runs and changes of pace: Ok where it does, and else the
+/// first rule that it breaks.
+pub fn check_base(artery: &Artery, base: &Base) -> Result<(), Failing>
+    ensures base { OnOk result (IsBase artery.now base.now) }
+    ensures shape { OnOk result (IsFor artery.now base.now) }
+    ensures refused { IfErr result (λ f. ¬ IsBase artery.now base.now) }
+    ensures first { IfErr result (λ f. IsFirstBaseFailing artery.now base.now f) }
 {
-    check_shape(artery, timing)?;
-    check_patterns(artery, timing)?;
-    check_cycle_least(artery, timing)?;
-    check_cycle_most(artery, timing)?;
-    check_links(artery, timing, LinkRule::Fast)?;
-    check_links(artery, timing, LinkRule::Slow)?;
-    check_links(artery, timing, LinkRule::Rise)?;
-    check_links(artery, timing, LinkRule::Drop)?;
+    check_shape(artery, base)?;
+    check_patterns(artery, base)?;
+    check_cycle_least(artery, base)?;
+    check_cycle_most(artery, base)?;
+    check_links(artery, base, LinkRule::Fast)?;
+    check_links(artery, base, LinkRule::Slow)?;
+    check_links(artery, base, LinkRule::Rise)?;
+    check_links(artery, base, LinkRule::Drop)?;
     Ok(())
+}
+
+/// Whether the base of a timing keeps its rules: Ok where it does, and else the first rule that it breaks. The timing's firsts and
+/// bands play no part.
+pub fn base_holds(artery: &Artery, timing: &Timing) -> Result<(), Failing>
+    ensures base { OnOk result (IsBase artery.now (base timing.now)) }
+    ensures shape { OnOk result (IsFor artery.now (base timing.now)) }
+    ensures refused { IfErr result (λ f. ¬ IsBase artery.now (base timing.now)) }
+    ensures first { IfErr result (λ f. IsFirstBaseFailing artery.now (base timing.now) f) }
+{
+    check_base(artery, timing.base())
+}
+
+/// Whether a timing's base keeps its rules, where the first failing is that of the timing.
+fn check_timing_base(artery: &Artery, timing: &Timing) -> Result<(), Failing>
+    ensures base { OnOk result (IsBase artery.now (base timing.now)) }
+    ensures shape { OnOk result (IsFor artery.now (base timing.now)) }
+    ensures next { OnOk result (NoneBefore (Fails artery.now timing.now) 8) }
+    ensures first { IfErr result (λ f. IsFirstFailing artery.now timing.now f) }
+{
+    base_holds(artery, timing)
 }
 
 /// Whether every line of a direction's band crosses every signal in green, whichever other rules the timing breaks.
 pub fn is_green_way(artery: &Artery, timing: &Timing, dir: Dir) -> bool
-    requires shape { length timing.now.patterns ≡ count artery.now }
+    requires shape { IsFor artery.now (base timing.now) }
     ensures { IsTrue result ↔ IsGreenWay artery.now timing.now dir }
 {
     first_blocked(artery, timing, dir).is_none()
@@ -237,7 +251,7 @@ pub fn holds(artery: &Artery, timing: &Timing) -> Result<(), Failing>
     ensures good { OnOk result (Good artery.now timing.now) }
     ensures first { IfErr result (λ f. IsFirstFailing artery.now timing.now f) }
 {
-    base_holds(artery, timing)?;
+    check_timing_base(artery, timing)?;
     check_ratio(artery, timing)?;
     check_least(artery, timing)?;
     check_equal(artery, timing)?;

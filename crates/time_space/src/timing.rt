@@ -1,25 +1,20 @@
-//! A timing, seen as a plan.
+//! A timing, seen as a timing record.
 
-ghost use Rattle.std.specs.Prelude.{◌≡◌, ◌↔◌, All, IsTrue, IfNone, IfSome, ◌+◌, ◌-◌, ◌<◌, ◌≤◌, ◌^◌, length, map, pos, ◌≤ℤ◌, ◌<ℤ◌};
-ghost use Rattle.progression.specs.TimingRecord.{TimingRecord, IsTimingRecord, pattern_of, common_red, run, first, band};
-ghost use Rattle.time_space.specs.Timing.{IsTiming, plan_of};
+ghost use Rattle.std.specs.Prelude.{◌≡◌, All, IfNone, IfSome, ◌+◌, ◌<◌, ◌≤◌, ◌^◌, length, map, pos, ◌≤ℤ◌, ◌<ℤ◌};
+ghost use Rattle.progression.specs.{BaseRecord.{IsBaseRecord, pattern_of, common_red, run}, TimingRecord.{TimingRecord, base, banded, first, band}};
+ghost use Rattle.time_space.specs.Timing.{IsTiming, AreOfBands, timing_of};
 ghost use Rattle.artery_model.specs.Bounds.{least_signals, most_signals};
 
-use artery_model::bounds::{LEAST_SIGNALS, MOST_SIGNALS};
+use crate::base::{Base, LIMIT};
 use progression::Dir;
 use std::marker::Model;
 
-/// A timing of an artery's signals, in ticks of a grid of its own.
+/// A timing of an artery's signals, in ticks of a grid of its own: a base, and the first line and the width of each band.
 ///
 /// Every number is below `2^80`. There are 2 to 24 signals.
 #[derive(Drop)]
 pub struct Timing {
-    grid: u128,
-    unit: u128,
-    patterns: Vec<u32>,
-    reds: Vec<u128>,
-    run_out: Vec<u128>,
-    run_in: Vec<u128>,
+    base: Base,
     first_out: u128,
     first_in: u128,
     band_out: u128,
@@ -27,44 +22,34 @@ pub struct Timing {
 }
 
 impl Model for Timing {
-    ghost use Rattle.std.specs.Prelude.{map, pos};
-    ghost use Rattle.progression.specs.TimingRecord.{TimingRecord};
-    ghost use Rattle.time_space.specs.Timing.{IsTiming};
+    ghost use Rattle.std.specs.Prelude.{pos};
+    ghost use Rattle.progression.specs.TimingRecord.{TimingRecord, banded};
+    ghost use Rattle.time_space.specs.Timing.{AreOfBands};
 
     ghost Value = { TimingRecord };
 
-    ghost view = { λ t. record {
-      grid = t.grid;
-      unit = t.unit;
-      patterns = t.patterns.items;
-      reds = map pos t.reds.items;
-      run_out = t.run_out.items;
-      run_in = t.run_in.items;
-      first_out = pos t.first_out;
-      first_in = pos t.first_in;
-      band_out = t.band_out;
-      band_in = t.band_in;
-    } };
+    ghost view = { λ t. banded (pos t.first_out) t.band_out (pos t.first_in) t.band_in t.base };
 
-    ghost invariant = { λ t. IsTiming t.grid t.unit t.patterns.items t.reds.items t.run_out.items t.run_in.items t.first_out t.first_in t.band_out t.band_in };
+    ghost invariant = { λ t. AreOfBands t.first_out t.first_in t.band_out t.band_in };
 }
 
-/// Every number of a timing is below this.
-pub const LIMIT: u128 = 1 << 80;
-
-/// Whether every number is below the limit.
-pub fn are_below_limit(numbers: &[u128]) -> bool
-    ensures { IsTrue result ↔ All (λ n. n < 2 ^ 80) numbers.now }
-{
-    numbers.iter().all(|number| *number < LIMIT)
-}
-
-fn all_patterns(patterns: &[u32]) -> bool
-    ensures { IsTrue result ↔ All (λ p. (1 ≤ p) × (p ≤ 4)) patterns.now }
-{
-    patterns
-        .iter()
-        .all(|pattern| 1 <= *pattern && *pattern <= 4)
+impl Base {
+    /// The timing with these first lines and bands, in ticks.
+    pub fn banded(self, first_out: u128, band_out: u128, first_in: u128, band_in: u128) -> Timing
+        requires first_out { first_out < 2 ^ 80 }
+        requires band_out { band_out < 2 ^ 80 }
+        requires first_in { first_in < 2 ^ 80 }
+        requires band_in { band_in < 2 ^ 80 }
+        ensures { result ≡ banded (pos first_out) band_out (pos first_in) band_in self }
+    {
+        Timing {
+            base: self,
+            first_out,
+            first_in,
+            band_out,
+            band_in,
+        }
+    }
 }
 
 impl Timing {
@@ -87,94 +72,30 @@ impl Timing {
     ) -> Option<Timing>
         ensures none { IfNone result (¬ IsTiming grid unit patterns.items reds.items run_out.items run_in.items first_out first_in band_out band_in) }
         ensures some { IfSome result (λ t. IsTiming grid unit patterns.items reds.items run_out.items run_in.items first_out first_in band_out band_in) }
-        ensures value { IfSome result (λ t. t ≡ plan_of grid unit patterns.items reds.items run_out.items run_in.items first_out first_in band_out band_in) }
+        ensures value { IfSome result (λ t. t ≡ timing_of grid unit patterns.items reds.items run_out.items run_in.items first_out first_in band_out band_in) }
     {
-        if grid < 1 || grid >= LIMIT || unit < 2 || unit >= LIMIT {
-            return None;
-        }
-        let count = patterns.len();
-        if count < LEAST_SIGNALS
-            || count > MOST_SIGNALS
-            || reds.len() != count
-            || run_out.len() + 1 != count
-            || run_in.len() + 1 != count
-        {
-            return None;
-        }
+        let base = Base::new(grid, unit, patterns, reds, run_out, run_in)?;
         if first_out >= LIMIT || first_in >= LIMIT || band_out >= LIMIT || band_in >= LIMIT {
             return None;
         }
-        if !all_patterns(patterns.as_slice()) {
-            return None;
-        }
-        if !are_below_limit(reds.as_slice())
-            || !are_below_limit(run_out.as_slice())
-            || !are_below_limit(run_in.as_slice())
-        {
-            return None;
-        }
-        Some(Timing {
-            grid,
-            unit,
-            patterns,
-            reds,
-            run_out,
-            run_in,
-            first_out,
-            first_in,
-            band_out,
-            band_in,
-        })
+        Some(base.banded(first_out, band_out, first_in, band_in))
     }
 
-    /// The same timing with these firsts and bands, in ticks.
-    pub fn with_bands(
-        self,
-        first_out: u128,
-        band_out: u128,
-        first_in: u128,
-        band_in: u128,
-    ) -> Timing
-        requires first_out { first_out < 2 ^ 80 }
-        requires band_out { band_out < 2 ^ 80 }
-        requires first_in { first_in < 2 ^ 80 }
-        requires band_in { band_in < 2 ^ 80 }
-        ensures { result ≡ record self { first_out = pos first_out; first_in = pos first_in; band_out = band_out; band_in = band_in } }
+    /// What no first line and no band is part of.
+    pub fn base(&self) -> &Base
+        ensures { result.now ≡ base self.now }
     {
-        let Timing {
-            grid,
-            unit,
-            patterns,
-            reds,
-            run_out,
-            run_in,
-            first_out: _,
-            first_in: _,
-            band_out: _,
-            band_in: _,
-        } = self;
-        Timing {
-            grid,
-            unit,
-            patterns,
-            reds,
-            run_out,
-            run_in,
-            first_out,
-            first_in,
-            band_out,
-            band_in,
-        }
+        &self.base
     }
 
     /// How many signals it has, from 2 to 24.
     pub fn count(&self) -> u32
         ensures value { result ≡ length self.now.patterns }
-        ensures plan { IsTimingRecord self.now }
+        ensures formed { IsBaseRecord (base self.now) }
         ensures few { least_signals ≤ result }
         ensures many { result ≤ most_signals }
     {
-        self.patterns.len() as u32
+        self.base.count()
     }
 
     /// The ticks in a second.
@@ -183,7 +104,7 @@ impl Timing {
         ensures least { 1 ≤ result }
         ensures most { result < 2 ^ 80 }
     {
-        self.grid
+        self.base.grid()
     }
 
     /// The ticks in a part.
@@ -192,42 +113,39 @@ impl Timing {
         ensures least { 2 ≤ result }
         ensures most { result < 2 ^ 80 }
     {
-        self.unit
+        self.base.unit()
     }
 
     /// The left turn pattern of a signal.
     pub fn pattern(&self, signal: u32) -> u32
         requires first { 1 ≤ signal }
         requires last { signal ≤ length self.now.patterns }
-        ensures value { result ≡ pattern_of self.now signal }
+        ensures value { result ≡ pattern_of (base self.now) signal }
         ensures least { 1 ≤ result }
         ensures most { result ≤ 4 }
     {
-        self.patterns[signal as usize - 1]
+        self.base.pattern(signal)
     }
 
     /// The tick at which the common red of a signal starts.
     pub fn common_red(&self, signal: u32) -> i128
         requires first { 1 ≤ signal }
         requires last { signal ≤ length self.now.patterns }
-        ensures value { result ≡ common_red self.now signal }
+        ensures value { result ≡ common_red (base self.now) signal }
         ensures least { pos 0 ≤ℤ result }
         ensures most { result <ℤ pos (2 ^ 80) }
     {
-        self.reds[signal as usize - 1] as i128
+        self.base.common_red(signal)
     }
 
     /// The ticks that a direction's band takes on a link.
     pub fn run(&self, dir: Dir, link: u32) -> u128
         requires first { 1 ≤ link }
         requires last { link < length self.now.patterns }
-        ensures value { result ≡ run self.now dir link }
+        ensures value { result ≡ run (base self.now) dir link }
         ensures most { result < 2 ^ 80 }
     {
-        match dir {
-            Dir::Outbound => self.run_out[link as usize - 1],
-            Dir::Inbound => self.run_in[link as usize - 1],
-        }
+        self.base.run(dir, link)
     }
 
     /// The tick at which the first line of a direction's band crosses the first signal of its way.
@@ -260,7 +178,7 @@ impl Timing {
         ensures few { least_signals ≤ length result.now }
         ensures many { length result.now ≤ most_signals }
     {
-        self.patterns.as_slice()
+        self.base.patterns()
     }
 
     /// The tick at which each signal's common red starts.
@@ -269,7 +187,7 @@ impl Timing {
         ensures most { All (λ n. n < 2 ^ 80) result.now }
         ensures count { length result.now ≡ length self.now.patterns }
     {
-        self.reds.as_slice()
+        self.base.reds()
     }
 
     /// The ticks of the outbound band from each signal to the next.
@@ -278,7 +196,7 @@ impl Timing {
         ensures most { All (λ n. n < 2 ^ 80) result.now }
         ensures count { length result.now + 1 ≡ length self.now.patterns }
     {
-        self.run_out.as_slice()
+        self.base.run_out()
     }
 
     /// The ticks of the inbound band on the same links.
@@ -287,6 +205,6 @@ impl Timing {
         ensures most { All (λ n. n < 2 ^ 80) result.now }
         ensures count { length result.now + 1 ≡ length self.now.patterns }
     {
-        self.run_in.as_slice()
+        self.base.run_in()
     }
 }

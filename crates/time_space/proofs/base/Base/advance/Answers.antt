@@ -1,7 +1,7 @@
 use Rattle.std.proofs.Common.{◌*◌, ◌<◌, ◌^◌, arith, refl}
 use Rattle.std.proofs.lemmas.Int.{to_z-of_z, to_z_pos}
 use Rattle.time_space.proofs.Fits.{parts_size, minus_size, minus_fits}
-use Rattle.time_space.proofs.diagram.advance.Goals as goal
+use Rattle.time_space.proofs.base.Base.advance.Goals as goal
 
 -- both numbers of ticks fit
 run_fits : (c : goal.After-unit) → c.run-run.result < 2 ^ 127
