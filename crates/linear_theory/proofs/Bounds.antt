@@ -9,7 +9,8 @@ use Rattle.rational_theory.specs.Rows.{dot, AllNonNegative, IsMet}
 use Rattle.rational_theory.proofs.Rows.{≤ℚ-sum}
 use Rattle.progression.specs.Street.{Street, count}
 use Rattle.progression.specs.Speeds.{number}
-use Rattle.progression.specs.TimingRecord.{TimingRecord, cycle}
+use Rattle.progression.specs.TimingRecord.{TimingRecord, base}
+use Rattle.progression.specs.BaseRecord.{cycle}
 use Rattle.progression.specs.Good.{Good}
 use Rattle.progression.specs.Best.{weighted_band}
 use Rattle.progression.specs.Columns.{Column, columns, ticks, point}
@@ -66,7 +67,7 @@ module _ (a : Street) (t : TimingRecord) (h : IsStreet a) (g : Good a t) where
   goal_value =
       line_value a t (goal_form a) (some_signal a h) (omega arith, tt, (omega arith, tt, tt))
       ∙ ring (lit (pos 1) ⊗ (at 0 ⊗ at 3) ⊕ (at 1 ⊗ (at 2 ⊗ at 3) ⊕ lit (pos 0))) ((at 0 ⊕ at 1 ⊗ at 2) ⊗ at 3)
-      (number t.band_out ∷ a.head.ratio ∷ number t.band_in ∷ inverse_ℚ (number (cycle a t)) ∷ []) refl
+      (number t.band_out ∷ a.head.ratio ∷ number t.band_in ∷ inverse_ℚ (number (cycle a (base t))) ∷ []) refl
 
   -- a row that covers the goal bounds the weighted band
   pub covers_law : (r : maths.Row) (value : ℚ) → IsMet (point a t) r → CoversGoal a value r → weighted_band a t ≤ℚ value

@@ -7,7 +7,8 @@ use Rattle.rational_theory.proofs.Linear.{linear}
 use Rattle.rational_theory.specs.Rows.{IsMet}
 use Rattle.progression.specs.Street.{Street, count, HasSignal, HasLink}
 use Rattle.progression.specs.Speeds.{number}
-use Rattle.progression.specs.TimingRecord.{TimingRecord, run}
+use Rattle.progression.specs.TimingRecord.{TimingRecord, base}
+use Rattle.progression.specs.BaseRecord.{run}
 use Rattle.progression.specs.Columns.{wait, shift, point}
 use Rattle.progression.specs.declared.parts.Dir.TheVariants.{Outbound, Inbound}
 use Rattle.linear_theory.specs.Shifts.{shifts_of, shift_at}
@@ -48,7 +49,7 @@ module _ (a : Street) (box : Area) (t : TimingRecord) (c : Counts a box t) where
     abbrev block_values : ℚ → List ℚ
     block_values z =
         share a t (wait a t Outbound i) ∷ share a t (wait a t Inbound i) ∷ share a t (wait a t Outbound (i + 1)) ∷ share a t (wait a t Inbound (i + 1))
-        ∷ share a t (run t Outbound i) ∷ share a t (run t Inbound i) ∷ share a t (shift a t i * t.unit) ∷ share a t (shift a t (i + 1) * t.unit)
+        ∷ share a t (run (base t) Outbound i) ∷ share a t (run (base t) Inbound i) ∷ share a t (shift a (base t) i * t.unit) ∷ share a t (shift a (base t) (i + 1) * t.unit)
         ∷ red_here a i ∷ red_here a (i + 1) ∷ clear_next a i ∷ clear_here a i ∷ z ∷ []
 
     -- the block sum is at least the span's least number
@@ -75,9 +76,9 @@ module _ (a : Street) (box : Area) (t : TimingRecord) (c : Counts a box t) where
         let r = c.inside.turns i k in let b = c.boxed.ranks_most i k in let e = r.is in let m = r.most in
         let q = rising (shifts_of a i) 0 (turn_span box i).least r.rank (shifts_ascend a i) r.least (omega arith) in
         line_met a t (turn_low_form a box i) (some_signal a c.street) (omega arith, k, tt)
-        (rw (share_part a t some_parts (unit_above a t c.good) (shift a t i))
-        (linear (fact 0 1 ∷ []) 0 (less_one ⊗ at 1 ⊕ zero_term) (minus (at 0)) (part a (shift_at a i (turn_span box i).least) ∷ part a (shift a t i) ∷ [])
-        (part_grows a (shift_at a i (turn_span box i).least) (shift a t i) some_parts (omega arith), tt) refl))
+        (rw (share_part a t some_parts (unit_above a t c.good) (shift a (base t) i))
+        (linear (fact 0 1 ∷ []) 0 (less_one ⊗ at 1 ⊕ zero_term) (minus (at 0)) (part a (shift_at a i (turn_span box i).least) ∷ part a (shift a (base t) i) ∷ [])
+        (part_grows a (shift_at a i (turn_span box i).least) (shift a (base t) i) some_parts (omega arith), tt) refl))
 
     -- and at most that of the greatest
     pub turn_high_law : IsMet (point a t) (line a (turn_high_form a box i))
@@ -85,6 +86,6 @@ module _ (a : Street) (box : Area) (t : TimingRecord) (c : Counts a box t) where
         let r = c.inside.turns i k in let b = c.boxed.ranks_most i k in let e = r.is in
         let q = rising (shifts_of a i) 0 r.rank (turn_span box i).most (shifts_ascend a i) r.most (omega arith) in
         line_met a t (turn_high_form a box i) (some_signal a c.street) (omega arith, k, tt)
-        (rw (share_part a t some_parts (unit_above a t c.good) (shift a t i))
-        (linear (fact 1 0 ∷ []) 0 (one ⊗ at 1 ⊕ zero_term) (at 0) (part a (shift_at a i (turn_span box i).most) ∷ part a (shift a t i) ∷ [])
-        (part_grows a (shift a t i) (shift_at a i (turn_span box i).most) some_parts (omega arith), tt) refl))
+        (rw (share_part a t some_parts (unit_above a t c.good) (shift a (base t) i))
+        (linear (fact 1 0 ∷ []) 0 (one ⊗ at 1 ⊕ zero_term) (at 0) (part a (shift_at a i (turn_span box i).most) ∷ part a (shift a (base t) i) ∷ [])
+        (part_grows a (shift a (base t) i) (shift_at a i (turn_span box i).most) some_parts (omega arith), tt) refl))

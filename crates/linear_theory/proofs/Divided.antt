@@ -10,7 +10,8 @@ use Rattle.rational_theory.proofs.Linear.{product_not_negative}
 use Rattle.rational_theory.proofs.Shares.{≤ℚ_cancel}
 use Rattle.progression.specs.Street.{Street, HasLink, distance}
 use Rattle.progression.specs.Speeds.{number, seconds, run_low, run_high}
-use Rattle.progression.specs.TimingRecord.{TimingRecord, cycle, run}
+use Rattle.progression.specs.TimingRecord.{TimingRecord, base}
+use Rattle.progression.specs.BaseRecord.{cycle, run}
 use Rattle.progression.specs.Good.{Good}
 use Rattle.progression.specs.declared.parts.Dir.{Dir}
 use Rattle.progression.specs.declared.parts.Units.{Units}
@@ -50,19 +51,19 @@ seconds_not_negative English d v h =
 
 module _ (a : Street) (t : TimingRecord) (h : IsStreet a) (g : Good a t) where
   -- the cycle is above 0
-  cycle_some : number 0 <ℚ number (cycle a t)
-  cycle_some = number_above (cycle a t) (cycle_above a t (parts_above a h) (unit_above a t g))
+  cycle_some : number 0 <ℚ number (cycle a (base t))
+  cycle_some = number_above (cycle a (base t)) (cycle_above a t (parts_above a h) (unit_above a t g))
 
   -- ---- over the cycle
   -- an inequality divided by the cycle
-  pub divided : (x y : ℚ) → x ≤ℚ y → (x /ℚ number (cycle a t)) ≤ℚ (y /ℚ number (cycle a t))
+  pub divided : (x y : ℚ) → x ≤ℚ y → (x /ℚ number (cycle a (base t))) ≤ℚ (y /ℚ number (cycle a (base t)))
   divided x y l = ≤ℚ-*ℚ x y _ l (inverse_not_negative _ cycle_some)
 
   -- a number of cycles is at most so many ticks
-  pub share_least : (q : ℚ) (n : ℕ) → (q *ℚ number (cycle a t)) ≤ℚ number n → q ≤ℚ share a t n
+  pub share_least : (q : ℚ) (n : ℕ) → (q *ℚ number (cycle a (base t))) ≤ℚ number n → q ≤ℚ share a t n
   share_least q n l =
       subst (λ x. x ≤ℚ share a t n)
-      (*ℚ_assoc q (number (cycle a t)) (inverse_ℚ (number (cycle a t))) ∙ ap (λ x. q *ℚ x) (*ℚ-inverse (number (cycle a t)) (above_not_zero _ cycle_some))
+      (*ℚ_assoc q (number (cycle a (base t))) (inverse_ℚ (number (cycle a (base t)))) ∙ ap (λ x. q *ℚ x) (*ℚ-inverse (number (cycle a (base t))) (above_not_zero _ cycle_some))
       ∙ ring (at 0 ⊗ lit (pos 1)) (at 0) (q ∷ []) refl)
       (divided _ _ l)
 
@@ -73,8 +74,8 @@ module _ (a : Street) (t : TimingRecord) (h : IsStreet a) (g : Good a t) where
       let most = a.head.cycle.most in
       let n = above_not_zero most h.cycle_most in
       let one : number 1 ≤ℚ (most *ℚ share a t t.grid) =
-      subst (λ x. x ≤ℚ (most *ℚ share a t t.grid)) (*ℚ-inverse (number (cycle a t)) (above_not_zero _ cycle_some))
-      (subst (λ x. (number (cycle a t) /ℚ number (cycle a t)) ≤ℚ x) (*ℚ_assoc most (number t.grid) (inverse_ℚ (number (cycle a t)))) (divided _ _ g.base.cycle_most)) in
+      subst (λ x. x ≤ℚ (most *ℚ share a t t.grid)) (*ℚ-inverse (number (cycle a (base t))) (above_not_zero _ cycle_some))
+      (subst (λ x. (number (cycle a (base t)) /ℚ number (cycle a (base t))) ≤ℚ x) (*ℚ_assoc most (number t.grid) (inverse_ℚ (number (cycle a (base t))))) (divided _ _ g.base.cycle_most)) in
       ≤ℚ_cancel _ _ most (<ℚ-≤ℚ _ _ h.cycle_most) n (rw (*ℚ_comm (inverse_ℚ most) most, *ℚ-inverse most n, *ℚ_comm (share a t t.grid) most) one)
 
   -- and at most one over the shortest
@@ -83,29 +84,29 @@ module _ (a : Street) (t : TimingRecord) (h : IsStreet a) (g : Good a t) where
       let least = a.head.cycle.least in
       let n = above_not_zero least h.cycle_least in
       let one : (least *ℚ share a t t.grid) ≤ℚ number 1 =
-      subst (λ x. (least *ℚ share a t t.grid) ≤ℚ x) (*ℚ-inverse (number (cycle a t)) (above_not_zero _ cycle_some))
-      (subst (λ x. x ≤ℚ (number (cycle a t) /ℚ number (cycle a t))) (*ℚ_assoc least (number t.grid) (inverse_ℚ (number (cycle a t)))) (divided _ _ g.base.cycle_least)) in
+      subst (λ x. (least *ℚ share a t t.grid) ≤ℚ x) (*ℚ-inverse (number (cycle a (base t))) (above_not_zero _ cycle_some))
+      (subst (λ x. x ≤ℚ (number (cycle a (base t)) /ℚ number (cycle a (base t)))) (*ℚ_assoc least (number t.grid) (inverse_ℚ (number (cycle a (base t))))) (divided _ _ g.base.cycle_least)) in
       ≤ℚ_cancel _ _ least (<ℚ-≤ℚ _ _ h.cycle_least) n (rw (*ℚ_comm (inverse_ℚ least) least, *ℚ-inverse least n, *ℚ_comm (share a t t.grid) least) one)
 
   -- ---- runs
   -- a run is no faster than the speed allows
-  pub fast_share : (d : Dir) (i : ℕ) → HasLink a i → (run_low a d i *ℚ share a t t.grid) ≤ℚ share a t (run t d i)
+  pub fast_share : (d : Dir) (i : ℕ) → HasLink a i → (run_low a d i *ℚ share a t t.grid) ≤ℚ share a t (run (base t) d i)
   fast_share d i k =
-      subst (λ x. x ≤ℚ share a t (run t d i)) (*ℚ_assoc (run_low a d i) (number t.grid) (inverse_ℚ (number (cycle a t)))) (divided _ _ (g.base.fast d i k))
+      subst (λ x. x ≤ℚ share a t (run (base t) d i)) (*ℚ_assoc (run_low a d i) (number t.grid) (inverse_ℚ (number (cycle a (base t))))) (divided _ _ (g.base.fast d i k))
 
   -- and no slower
-  pub slow_share : (d : Dir) (i : ℕ) → HasLink a i → share a t (run t d i) ≤ℚ (run_high a d i *ℚ share a t t.grid)
+  pub slow_share : (d : Dir) (i : ℕ) → HasLink a i → share a t (run (base t) d i) ≤ℚ (run_high a d i *ℚ share a t t.grid)
   slow_share d i k =
-      subst (λ x. share a t (run t d i) ≤ℚ x) (*ℚ_assoc (run_high a d i) (number t.grid) (inverse_ℚ (number (cycle a t)))) (divided _ _ (g.base.slow d i k))
+      subst (λ x. share a t (run (base t) d i) ≤ℚ x) (*ℚ_assoc (run_high a d i) (number t.grid) (inverse_ℚ (number (cycle a (base t))))) (divided _ _ (g.base.slow d i k))
 
   -- it is at least the root's least
-  pub run_least_holds : (d : Dir) (i : ℕ) → HasLink a i → run_least a d i ≤ℚ share a t (run t d i)
+  pub run_least_holds : (d : Dir) (i : ℕ) → HasLink a i → run_least a d i ≤ℚ share a t (run (base t) d i)
   run_least_holds d i k =
       ≤ℚ_trans _ (run_low a d i *ℚ share a t t.grid) _
       (≤ℚ-left (run_low a d i) _ _ (seconds_not_negative a.head.units (distance a d i) _ (h.speed_most d i k)) frequency_least) (fast_share d i k)
 
   -- and at most the greatest
-  pub run_greatest_holds : (d : Dir) (i : ℕ) → HasLink a i → share a t (run t d i) ≤ℚ run_greatest a d i
+  pub run_greatest_holds : (d : Dir) (i : ℕ) → HasLink a i → share a t (run (base t) d i) ≤ℚ run_greatest a d i
   run_greatest_holds d i k =
       ≤ℚ_trans _ (run_high a d i *ℚ share a t t.grid) _ (slow_share d i k)
       (≤ℚ-left (run_high a d i) _ _ (seconds_not_negative a.head.units (distance a d i) _ (h.speed_least d i k)) frequency_most)

@@ -4,7 +4,8 @@ use Rattle.std.proofs.lemmas.List.{length-map, get_or-map, get_or_append_left, g
 use Rattle.rational_theory.specs.Rational.{ℚ, ◌/ℚ◌}
 use Rattle.progression.specs.Street.{Street, count}
 use Rattle.progression.specs.Speeds.{number}
-use Rattle.progression.specs.TimingRecord.{TimingRecord, cycle}
+use Rattle.progression.specs.TimingRecord.{TimingRecord, base}
+use Rattle.progression.specs.BaseRecord.{cycle}
 use Rattle.progression.specs.Columns.{Column, BandOf, Frequency, WaitOf, RunOf, ShiftOf, numbered, columns, ticks, point}
 use Rattle.progression.specs.declared.parts.Dir.TheVariants.{Outbound, Inbound}
 use Rattle.linear_theory.specs.Places.{place, width, value_at}
@@ -12,7 +13,7 @@ use Rattle.linear_theory.proofs.Places.{IsColumn}
 
 -- some ticks as a fraction of the cycle
 abbrev pub share : Street → TimingRecord → ℕ → ℚ
-share a t k = number k /ℚ number (cycle a t)
+share a t k = number k /ℚ number (cycle a (base t))
 
 -- ---- the list of columns
 -- n numbered items are n

@@ -13,7 +13,8 @@ use Rattle.rational_theory.proofs.Rows.{≤ℚ-left}
 use Rattle.rational_theory.proofs.Shares.{≤ℚ_cancel}
 use Rattle.progression.specs.Speeds.{number}
 use Rattle.progression.specs.Street.{Street}
-use Rattle.progression.specs.TimingRecord.{TimingRecord, cycle}
+use Rattle.progression.specs.TimingRecord.{TimingRecord, base}
+use Rattle.progression.specs.BaseRecord.{cycle}
 use Rattle.progression.specs.Good.{Good, RatioHolds}
 use Rattle.linear_theory.specs.Counts.{IsStreet}
 use Rattle.linear_theory.proofs.Points.{share}
@@ -88,8 +89,8 @@ module _ {X : Type 0} (k : ℚ) (out back : ℕ) (below above : X) (P : X → Ty
 module _ (a : Street) (t : TimingRecord) (h : IsStreet a) (g : Good a t) where
   -- where the ratio is below 1
   pub ratio_below : a.head.ratio <ℚ number 1 → (a.head.ratio *ℚ share a t t.band_out) ≤ℚ share a t t.band_in
-  ratio_below l = (below_shares a.head.ratio t.band_out t.band_in (cycle a t) (cycle_above a t (parts_above a h) (unit_above a t g)) l).0 g.ratio
+  ratio_below l = (below_shares a.head.ratio t.band_out t.band_in (cycle a (base t)) (cycle_above a t (parts_above a h) (unit_above a t g)) l).0 g.ratio
 
   -- where it is above 1
   pub ratio_above : number 1 <ℚ a.head.ratio → share a t t.band_in ≤ℚ (a.head.ratio *ℚ share a t t.band_out)
-  ratio_above l = (above_shares a.head.ratio t.band_out t.band_in (cycle a t) (cycle_above a t (parts_above a h) (unit_above a t g)) l).0 g.ratio
+  ratio_above l = (above_shares a.head.ratio t.band_out t.band_in (cycle a (base t)) (cycle_above a t (parts_above a h) (unit_above a t g)) l).0 g.ratio

@@ -5,7 +5,8 @@ use Rattle.rational_theory.proofs.Floor.{floor_is, ceil_is}
 use Rattle.rational_theory.proofs.Ring.{at}
 use Rattle.rational_theory.proofs.Linear.{linear}
 use Rattle.progression.specs.Street.{Street, HasSignal, HasLink}
-use Rattle.progression.specs.TimingRecord.{TimingRecord, pattern_of}
+use Rattle.progression.specs.TimingRecord.{TimingRecord, base}
+use Rattle.progression.specs.BaseRecord.{pattern_of}
 use Rattle.progression.specs.Good.{Good}
 use Rattle.progression.specs.Columns.{shift}
 use Rattle.progression.specs.declared.parts.Dir.TheVariants.{Outbound, Inbound}
@@ -36,20 +37,20 @@ block_grows w w' v v' y y' s s' r r' k k' W W' V V' Y Y' S S' h1 h2 h3 h4 h5 h6 
 module _ (a : Street) (t : TimingRecord) (h : IsStreet a) (g : Good a t) where
   -- ---- shifts
   -- the shift of a timing is at least the least allowed one
-  shift_low : (i : ℕ) → HasSignal a i → shift_least a i ≤ℚ share a t (shift a t i * t.unit)
+  shift_low : (i : ℕ) → HasSignal a i → shift_least a i ≤ℚ share a t (shift a (base t) i * t.unit)
   shift_low i k =
-      let r = ranked a i (pattern_of t i) (g.base.patterns i k) in
+      let r = ranked a i (pattern_of (base t) i) (g.base.patterns i k) in
       let e = r.is in let b = r.there in
       let low = rising (shifts_of a i) 0 0 r.rank (shifts_ascend a i) (omega arith) b in
-      rw (share_part a t (parts_above a h) (unit_above a t g) (shift a t i)) (part_grows a (shift_at a i 0) (shift a t i) (parts_above a h) (omega arith))
+      rw (share_part a t (parts_above a h) (unit_above a t g) (shift a (base t) i)) (part_grows a (shift_at a i 0) (shift a (base t) i) (parts_above a h) (omega arith))
 
   -- and at most the greatest
-  shift_high : (i : ℕ) → HasSignal a i → share a t (shift a t i * t.unit) ≤ℚ shift_greatest a i
+  shift_high : (i : ℕ) → HasSignal a i → share a t (shift a (base t) i * t.unit) ≤ℚ shift_greatest a i
   shift_high i k =
-      let r = ranked a i (pattern_of t i) (g.base.patterns i k) in
+      let r = ranked a i (pattern_of (base t) i) (g.base.patterns i k) in
       let e = r.is in let b = r.there in
       let high = rising (shifts_of a i) 0 r.rank (shift_count a i - 1) (shifts_ascend a i) (omega arith) (omega arith) in
-      rw (share_part a t (parts_above a h) (unit_above a t g) (shift a t i)) (part_grows a (shift a t i) (shift_at a i (shift_count a i - 1)) (parts_above a h) (omega arith))
+      rw (share_part a t (parts_above a h) (unit_above a t g) (shift a (base t) i)) (part_grows a (shift a (base t) i) (shift_at a i (shift_count a i - 1)) (parts_above a h) (omega arith))
 
   -- ---- block sums
   module _ (i : ℕ) (k : HasLink a i) where
@@ -92,7 +93,7 @@ module _ (a : Street) (t : TimingRecord) (h : IsStreet a) (g : Good a t) where
   -- the shift has a rank
   turn_in_root : (box : Area) (i : ℕ) → HasSignal a i → turn_span box i ≡ root_ranks a i → TurnIn a box t i
   turn_in_root box i k e =
-      let r = ranked a i (pattern_of t i) (g.base.patterns i k) in
+      let r = ranked a i (pattern_of (base t) i) (g.base.patterns i k) in
       let b = r.there in
       record { rank = r.rank; is = r.is; least = rw e (omega arith); most = rw e (omega arith) }
 
@@ -105,4 +106,4 @@ module _ (a : Street) (t : TimingRecord) (h : IsStreet a) (g : Good a t) where
 
   -- where there is a good timing, each signal has a shift
   pub shift_there : (i : ℕ) → HasSignal a i → 0 < shift_count a i
-  shift_there i k = let q = (ranked a i (pattern_of t i) (g.base.patterns i k)).there in omega arith
+  shift_there i k = let q = (ranked a i (pattern_of (base t) i) (g.base.patterns i k)).there in omega arith

@@ -11,7 +11,8 @@ use Rattle.rational_theory.proofs.Linear.{linear}
 use Rattle.rational_theory.specs.Rows.{IsMet}
 use Rattle.progression.specs.Street.{Street, distance, HasSignal, HasLink}
 use Rattle.progression.specs.Speeds.{number, run_low, run_high, change}
-use Rattle.progression.specs.TimingRecord.{TimingRecord, cycle, run}
+use Rattle.progression.specs.TimingRecord.{TimingRecord, base}
+use Rattle.progression.specs.BaseRecord.{cycle, run}
 use Rattle.progression.specs.Good.{Good}
 use Rattle.progression.specs.Columns.{wait, point}
 use Rattle.progression.specs.declared.parts.Pair.{Pair}
@@ -49,29 +50,29 @@ module _ (a : Street) (t : TimingRecord) (h : IsStreet a) (g : Good a t) where
   fast_law Outbound i s =
       line_met a t (fast_form a Outbound i) (some_signal a h) (omega arith, tt, (omega arith, s, tt))
       (linear (record { count = 1; low = at 0 ⊗ at 1; high = at 2 } ∷ []) 0 (at 0 ⊗ at 1 ⊕ (less_one ⊗ at 2 ⊕ zero_term)) zero_term
-      (run_low a Outbound i ∷ share a t t.grid ∷ share a t (run t Outbound i) ∷ []) (fast_share a t h g Outbound i s, tt) refl)
+      (run_low a Outbound i ∷ share a t t.grid ∷ share a t (run (base t) Outbound i) ∷ []) (fast_share a t h g Outbound i s, tt) refl)
   fast_law Inbound i s =
       line_met a t (fast_form a Inbound i) (some_signal a h) (omega arith, tt, (omega arith, s, tt))
       (linear (record { count = 1; low = at 0 ⊗ at 1; high = at 2 } ∷ []) 0 (at 0 ⊗ at 1 ⊕ (less_one ⊗ at 2 ⊕ zero_term)) zero_term
-      (run_low a Inbound i ∷ share a t t.grid ∷ share a t (run t Inbound i) ∷ []) (fast_share a t h g Inbound i s, tt) refl)
+      (run_low a Inbound i ∷ share a t t.grid ∷ share a t (run (base t) Inbound i) ∷ []) (fast_share a t h g Inbound i s, tt) refl)
 
   -- and none slower than the least
   pub slow_law : (d : Dir) (i : ℕ) → HasLink a i → IsMet (point a t) (line a (slow_form a d i))
   slow_law Outbound i s =
       line_met a t (slow_form a Outbound i) (some_signal a h) (omega arith, tt, (omega arith, s, tt))
       (linear (record { count = 1; low = at 2; high = at 0 ⊗ at 1 } ∷ []) 0 (minus (at 0) ⊗ at 1 ⊕ (one ⊗ at 2 ⊕ zero_term)) zero_term
-      (run_high a Outbound i ∷ share a t t.grid ∷ share a t (run t Outbound i) ∷ []) (slow_share a t h g Outbound i s, tt) refl)
+      (run_high a Outbound i ∷ share a t t.grid ∷ share a t (run (base t) Outbound i) ∷ []) (slow_share a t h g Outbound i s, tt) refl)
   slow_law Inbound i s =
       line_met a t (slow_form a Inbound i) (some_signal a h) (omega arith, tt, (omega arith, s, tt))
       (linear (record { count = 1; low = at 2; high = at 0 ⊗ at 1 } ∷ []) 0 (minus (at 0) ⊗ at 1 ⊕ (one ⊗ at 2 ⊕ zero_term)) zero_term
-      (run_high a Inbound i ∷ share a t t.grid ∷ share a t (run t Inbound i) ∷ []) (slow_share a t h g Inbound i s, tt) refl)
+      (run_high a Inbound i ∷ share a t t.grid ∷ share a t (run (base t) Inbound i) ∷ []) (slow_share a t h g Inbound i s, tt) refl)
 
   module _ (i : ℕ) (k : HasLink a i) (l : HasLink a (i + 1)) (c : Pair) where
     -- the limit, the frequency's ticks, each run and one over its distance, one over the cycle
     abbrev pace_values : Dir → ℚ → List ℚ
     pace_values d limit =
-        limit ∷ number t.grid ∷ number (run t d i) ∷ inverse_ℚ (number (distance a d i)) ∷ number (run t d (i + 1)) ∷ inverse_ℚ (number (distance a d (i + 1)))
-        ∷ inverse_ℚ (number (cycle a t)) ∷ []
+        limit ∷ number t.grid ∷ number (run (base t) d i) ∷ inverse_ℚ (number (distance a d i)) ∷ number (run (base t) d (i + 1)) ∷ inverse_ℚ (number (distance a d (i + 1)))
+        ∷ inverse_ℚ (number (cycle a (base t))) ∷ []
 
     -- the change of pace and its limit, over the cycle
     abbrev change_term : Term

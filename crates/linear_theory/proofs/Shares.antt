@@ -4,7 +4,8 @@ use Rattle.rational_theory.specs.Rational.{whole, over, inverse_ℚ, ◌/ℚ◌,
 use Rattle.rational_theory.proofs.Arithmetic.{IsRatio, over_ratio, rebase, product_ratio, whole_ratio, same_ratio, ≤ℚ_in, *ℚ-zero}
 use Rattle.progression.specs.Street.{Street}
 use Rattle.progression.specs.Speeds.{number}
-use Rattle.progression.specs.TimingRecord.{TimingRecord, cycle}
+use Rattle.progression.specs.TimingRecord.{TimingRecord, base}
+use Rattle.progression.specs.BaseRecord.{cycle}
 use Rattle.linear_theory.specs.Blocks.{part}
 use Rattle.linear_theory.proofs.Points.{share}
 
@@ -34,15 +35,15 @@ part_ratio a h r = quotient_ratio r a.head.parts h
 
 module _ (a : Street) (t : TimingRecord) (p : 0 < a.head.parts) (u : 0 < t.unit) where
   -- the cycle has ticks
-  pub cycle_above : 0 < cycle a t
+  pub cycle_above : 0 < cycle a (base t)
   cycle_above = mul-pos p u
 
   -- some ticks over the cycle
-  pub ticked : (k : ℕ) → IsRatio (share a t k) k 0 (cycle a t)
-  ticked k = quotient_ratio k (cycle a t) cycle_above
+  pub ticked : (k : ℕ) → IsRatio (share a t k) k 0 (cycle a (base t))
+  ticked k = quotient_ratio k (cycle a (base t)) cycle_above
 
   -- some parts over the cycle, in ticks
-  pub parted : (r : ℕ) → IsRatio (part a r) (r * t.unit) 0 (cycle a t)
+  pub parted : (r : ℕ) → IsRatio (part a r) (r * t.unit) 0 (cycle a (base t))
   parted r = rebase _ _ _ _ _ _ _ (quotient_ratio r a.head.parts p) cycle_above (omega arith)
 
   -- parts are a share of as many units

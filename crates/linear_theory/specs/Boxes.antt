@@ -4,7 +4,7 @@ use Rattle.rational_theory.specs.Rational.{ℚ, whole, ◌/ℚ◌}
 use Rattle.rational_theory.specs.Floor.{floor_ℚ, ceil_ℚ}
 use Rattle.progression.specs.Street.{Street, count, HasSignal, HasLink}
 use Rattle.progression.specs.Speeds.{number, run_low, run_high}
-use Rattle.progression.specs.TimingRecord.{TimingRecord}
+use Rattle.progression.specs.TimingRecord.{TimingRecord, base}
 use Rattle.progression.specs.Columns.{shift, point, numbered}
 use Rattle.progression.specs.declared.parts.Dir.{Dir}
 use Rattle.progression.specs.declared.parts.Dir.TheVariants.{Outbound, Inbound}
@@ -109,7 +109,7 @@ pub record LoopIn (a : Street) (box : Area) (t : TimingRecord) (i : ℕ) : Type 
 -- the shift of signal i has a rank of its span
 pub record TurnIn (a : Street) (box : Area) (t : TimingRecord) (i : ℕ) : Type 0 where
   pub rank : ℕ
-  pub is : shift_at a i rank ≡ shift a t i
+  pub is : shift_at a i rank ≡ shift a (base t) i
   pub least : (turn_span box i).least ≤ rank
   pub most : rank ≤ (turn_span box i).most
 

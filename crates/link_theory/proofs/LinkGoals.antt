@@ -9,7 +9,8 @@ use Rattle.rational_theory.proofs.Ring.{ring, at, lit, ◌⊕◌, ◌⊗◌}
 use Rattle.rational_theory.specs.Rows.{dot, AllNonNegative}
 use Rattle.progression.specs.Street.{Street, count}
 use Rattle.progression.specs.Speeds.{number}
-use Rattle.progression.specs.TimingRecord.{TimingRecord, cycle}
+use Rattle.progression.specs.TimingRecord.{TimingRecord, base}
+use Rattle.progression.specs.BaseRecord.{cycle}
 use Rattle.progression.specs.Columns.{point}
 use Rattle.linear_theory.specs.Places.{width}
 use Rattle.linear_theory.proofs.Points.{share, point_width}
@@ -30,13 +31,13 @@ use Rattle.link_theory.proofs.LinesAreGood.{good_lines}
 
 -- ---- the same number at each of some ticks
 dot_shares : (a : Street) (t : TimingRecord) (v : ℚ) (hs : List ℕ) (m : ℕ) → length hs ≡ m → dot (replicate m v) (map (share a t) hs) ≡ v *ℚ share a t (sum hs)
-dot_shares a t v [] zero e = ring (lit (pos 0)) (at 0 ⊗ (lit (pos 0) ⊗ at 1)) (v ∷ inverse_ℚ (number (cycle a t)) ∷ []) refl
+dot_shares a t v [] zero e = ring (lit (pos 0)) (at 0 ⊗ (lit (pos 0) ⊗ at 1)) (v ∷ inverse_ℚ (number (cycle a (base t))) ∷ []) refl
 dot_shares a t v [] (suc m) e = absurd (omega arith)
 dot_shares a t v (h ∷ hs) zero e = absurd (omega arith)
 dot_shares a t v (h ∷ hs) (suc m) e =
     ap (λ s. v *ℚ share a t h +ℚ s) (dot_shares a t v hs m (omega arith))
-    ∙ ring (at 0 ⊗ (at 1 ⊗ at 3) ⊕ at 0 ⊗ (at 2 ⊗ at 3)) (at 0 ⊗ ((at 1 ⊕ at 2) ⊗ at 3)) (v ∷ number h ∷ number (sum hs) ∷ inverse_ℚ (number (cycle a t)) ∷ []) refl
-    ∙ ap (λ s. v *ℚ (s *ℚ inverse_ℚ (number (cycle a t)))) (sym (whole-+ℤ (pos h) (pos (sum hs))))
+    ∙ ring (at 0 ⊗ (at 1 ⊗ at 3) ⊕ at 0 ⊗ (at 2 ⊗ at 3)) (at 0 ⊗ ((at 1 ⊕ at 2) ⊗ at 3)) (v ∷ number h ∷ number (sum hs) ∷ inverse_ℚ (number (cycle a (base t))) ∷ []) refl
+    ∙ ap (λ s. v *ℚ (s *ℚ inverse_ℚ (number (cycle a (base t))))) (sym (whole-+ℤ (pos h) (pos (sum hs))))
     ∙ ap (λ n. v *ℚ share a t n) (sym (sum_by-cons (λ (n : ℕ). n) h hs))
 
 -- ---- signs
@@ -52,7 +53,7 @@ module _ (a : Street) (t : LinkRecord) (h : IsStreet a) (g : GoodLinks a t) wher
   -- no column is below 0
   pub link_point_not_negative : AllNonNegative (link_point a t)
   link_point_not_negative =
-      let p = g.plan.lines in let u = p.unit in
+      let p = g.formed.base in let u = p.unit in
       let some : (k : ℕ) → number 0 ≤ℚ share a (lines t) k = λ k. share_not_negative a (lines t) (parts_above a h) (omega arith) k in
       joined_not_negative (point a (lines t)) (map (share a (lines t)) t.half_out ++ map (share a (lines t)) t.half_in)
       (subst AllNonNegative (same_point a (lines t)) (point_not_negative (plain a) (lines t) (plain_street a h) (good_lines a t h g)))
@@ -66,8 +67,8 @@ module _ (a : Street) (t : LinkRecord) (h : IsStreet a) (g : GoodLinks a t) wher
       dot-append (replicate (width n) (number 0)) _ (point a p) _ (length-replicate (width n) (number 0) ∙ sym (point_width a p (omega arith)))
       ∙ ap₂ (λ u v. u +ℚ v) (dot-zeros (width n) (point a p))
       (dot-append (replicate (n - 1) (number 2)) (replicate (n - 1) (number 2 *ℚ k)) (map (share a p) t.half_out) (map (share a p) t.half_in)
-      (length-replicate (n - 1) (number 2) ∙ sym (length-map t.half_out (share a p) ∙ halves_out a t g.plan g.base.shape h.signals))
-      ∙ ap₂ (λ u v. u +ℚ v) (dot_shares a p (number 2) t.half_out (n - 1) (halves_out a t g.plan g.base.shape h.signals))
-      (dot_shares a p (number 2 *ℚ k) t.half_in (n - 1) (halves_in a t g.plan g.base.shape h.signals)))
+      (length-replicate (n - 1) (number 2) ∙ sym (length-map t.half_out (share a p) ∙ halves_out a t g.formed g.base.shape h.signals))
+      ∙ ap₂ (λ u v. u +ℚ v) (dot_shares a p (number 2) t.half_out (n - 1) (halves_out a t g.formed g.base.shape h.signals))
+      (dot_shares a p (number 2 *ℚ k) t.half_in (n - 1) (halves_in a t g.formed g.base.shape h.signals)))
       ∙ ring (lit (pos 0) ⊕ (lit (pos 2) ⊗ (at 0 ⊗ at 3) ⊕ (lit (pos 2) ⊗ at 1) ⊗ (at 2 ⊗ at 3))) ((lit (pos 2) ⊗ (at 0 ⊕ at 1 ⊗ at 2)) ⊗ at 3)
-      (number (sum t.half_out) ∷ k ∷ number (sum t.half_in) ∷ inverse_ℚ (number (cycle a p)) ∷ []) refl
+      (number (sum t.half_out) ∷ k ∷ number (sum t.half_in) ∷ inverse_ℚ (number (cycle a (base p))) ∷ []) refl

@@ -11,8 +11,9 @@ use Rattle.rational_theory.proofs.Ring.{at, minus, ◌⊕◌, ◌⊗◌}
 use Rattle.rational_theory.proofs.Linear.{linear}
 use Rattle.rational_theory.specs.Rows.{IsMet}
 use Rattle.progression.specs.Street.{Street, count, HasLink}
+use Rattle.progression.specs.TimingRecord.{base}
 use Rattle.progression.specs.Speeds.{number}
-use Rattle.progression.specs.TimingRecord.{cycle}
+use Rattle.progression.specs.BaseRecord.{cycle}
 use Rattle.progression.specs.Good.{RatioHolds}
 use Rattle.progression.specs.Columns.{WaitOf, wait}
 use Rattle.progression.specs.declared.parts.Dir.{Dir}
@@ -22,7 +23,7 @@ use Rattle.linear_theory.specs.Blocks.{green_part}
 use Rattle.linear_theory.specs.Rows.{minus_one}
 use Rattle.linear_theory.proofs.Terms.{one, less_one, zero_term, fact}
 use Rattle.linear_theory.proofs.Points.{share}
-use Rattle.link_theory.specs.LinkRecord.{LinkRecord, IsLinkRecord, lines, half}
+use Rattle.link_theory.specs.LinkRecord.{LinkRecord, IsLinkRecord, link_base, lines, half}
 use Rattle.link_theory.specs.GoodLinks.{GoodLinks, IsGreenAround}
 use Rattle.linear_theory.specs.Counts.{IsStreet}
 use Rattle.linear_theory.proofs.PlacedRows.{Rises, cells_sum, placed_met, met_placed}
@@ -83,7 +84,7 @@ module _ (a : Street) (t : LinkRecord) (h : IsStreet a) (p : IsLinkRecord t) (s 
     -- the band is green at the end exactly where the point meets the end's two rows
     pub end_law : IsGreenAround a t d (signal_at e i) (half t d i) ↔ (IsMet (link_point a t) (link_line a (near_form a d e i)) × IsMet (link_point a t) (link_line a (far_form a d e i)))
     end_law =
-        let w = around_shares a t h p.lines.unit d (signal_at e i) (half t d i) (end_there a e i k) in (
+        let w = around_shares a t h p.base.unit d (signal_at e i) (half t d i) (end_there a e i k) in (
           λ g. let m = w.0 g in (near_rule.1 m.0, far_rule.1 m.1),
           λ m. w.1 (near_rule.0 m.0, far_rule.0 m.1),
         )
@@ -124,24 +125,24 @@ module _ (a : Street) (t : LinkRecord) (h : IsStreet a) (p : IsLinkRecord t) (s 
     -- the halves keep the rule of the ratio exactly where the point meets its row, if there is one
     pub link_ratio_law : RatioHolds a.head.ratio (half t Outbound i) (half t Inbound i) ↔ (a.head.ratio ≢ number 1 → IsMet (link_point a t) (link_line a (link_ratio_form a i)))
     link_ratio_law =
-        let c = some_cycle a t h p.lines.unit in (
+        let c = some_cycle a t h p.base.unit in (
           λ r n. elim (is_lt (cmp_ℚ a.head.ratio (number 1))) as (λ b. b ≡ is_lt (cmp_ℚ a.head.ratio (number 1))
               → IsMet (link_point a t) (link_line a (if b then link_below_form a i else link_above_form a i))) [
-                | true ↦ λ e. below_rule.1 ((below_shares a.head.ratio _ _ (cycle a (lines t)) c (lt_true a.head.ratio (number 1) e)).0 r)
-                | false ↦ λ e. above_rule.1 ((above_shares a.head.ratio _ _ (cycle a (lines t)) c (not-≤ℚ _ _ (λ l. n (≤ℚ_antisymm _ _ l (lt_false a.head.ratio (number 1) e))))).0 r)
+                | true ↦ λ e. below_rule.1 ((below_shares a.head.ratio _ _ (cycle a (link_base t)) c (lt_true a.head.ratio (number 1) e)).0 r)
+                | false ↦ λ e. above_rule.1 ((above_shares a.head.ratio _ _ (cycle a (link_base t)) c (not-≤ℚ _ _ (λ l. n (≤ℚ_antisymm _ _ l (lt_false a.head.ratio (number 1) e))))).0 r)
               ] refl,
           λ m. ratio_from a.head.ratio (half t Outbound i) (half t Inbound i) (link_below_form a i) (link_above_form a i) (λ f. IsMet (link_point a t) (link_line a f))
-              (λ w q. (below_shares a.head.ratio _ _ (cycle a (lines t)) c w).1 (below_rule.0 q))
-              (λ w q. (above_shares a.head.ratio _ _ (cycle a (lines t)) c w).1 (above_rule.0 q)) m,
+              (λ w q. (below_shares a.head.ratio _ _ (cycle a (link_base t)) c w).1 (below_rule.0 q))
+              (λ w q. (above_shares a.head.ratio _ _ (cycle a (link_base t)) c w).1 (above_rule.0 q)) m,
         )
 
 -- ---- of good link timings
 module _ (a : Street) (t : LinkRecord) (h : IsStreet a) (g : GoodLinks a t) where
   pub near_law : (d : Dir) (e : End) (i : ℕ) → HasLink a i → IsMet (link_point a t) (link_line a (near_form a d e i))
-  near_law d e i k = ((end_law a t h g.plan g.base.shape d e i k).0 (green_end a t g d e i k)).0
+  near_law d e i k = ((end_law a t h g.formed g.base.shape d e i k).0 (green_end a t g d e i k)).0
 
   pub far_law : (d : Dir) (e : End) (i : ℕ) → HasLink a i → IsMet (link_point a t) (link_line a (far_form a d e i))
-  far_law d e i k = ((end_law a t h g.plan g.base.shape d e i k).0 (green_end a t g d e i k)).1
+  far_law d e i k = ((end_law a t h g.formed g.base.shape d e i k).0 (green_end a t g d e i k)).1
 
   pub ratio_law : (i : ℕ) → HasLink a i → a.head.ratio ≢ number 1 → IsMet (link_point a t) (link_line a (link_ratio_form a i))
-  ratio_law i k = (link_ratio_law a t h g.plan g.base.shape i k).0 (g.ratio i k)
+  ratio_law i k = (link_ratio_law a t h g.formed g.base.shape i k).0 (g.ratio i k)

@@ -5,7 +5,7 @@ use Rattle.rational_theory.specs.Rational.{◌+ℚ◌, ◌≤ℚ◌}
 use Rattle.rational_theory.proofs.Arithmetic.{IsRatio, ≤ℚ_out}
 use Rattle.rational_theory.proofs.Shares.{one_cycle, less_ticks, joined_ticks, at_most_ticks}
 use Rattle.progression.specs.Street.{Street, HasSignal, HasLink, red_parts}
-use Rattle.progression.specs.TimingRecord.{cycle}
+use Rattle.progression.specs.BaseRecord.{cycle}
 use Rattle.progression.specs.Green.{red_ticks}
 use Rattle.progression.specs.Columns.{wait}
 use Rattle.progression.specs.declared.parts.Dir.{Dir}
@@ -14,7 +14,7 @@ use Rattle.linear_theory.specs.Counts.{IsStreet}
 use Rattle.linear_theory.proofs.Points.{share}
 use Rattle.linear_theory.proofs.Shares.{cycle_above, ticked, parted}
 use Rattle.linear_theory.proofs.Ranges.{parts_above}
-use Rattle.link_theory.specs.LinkRecord.{LinkRecord, lines, half}
+use Rattle.link_theory.specs.LinkRecord.{LinkRecord, link_base, lines, half}
 use Rattle.link_theory.specs.GoodLinks.{GoodLinks, IsGreenAround}
 use Rattle.link_theory.specs.declared.ends.End.{End}
 use Rattle.link_theory.specs.declared.ends.End.TheVariants.{Here, Next}
@@ -35,33 +35,33 @@ module _ (a : Street) (t : LinkRecord) (h : IsStreet a) (u : 2 ≤ t.unit) where
   some_unit : 0 < t.unit
   some_unit = omega arith
 
-  pub some_cycle : 0 < cycle a (lines t)
+  pub some_cycle : 0 < cycle a (link_base t)
   some_cycle = cycle_above a (lines t) (parts_above a h) some_unit
 
-  tick : (k : ℕ) → IsRatio (share a (lines t) k) k 0 (cycle a (lines t))
+  tick : (k : ℕ) → IsRatio (share a (lines t) k) k 0 (cycle a (link_base t))
   tick k = ticked a (lines t) (parts_above a h) some_unit k
 
   -- the order of ticks is that of their shares
   share_order : (k m : ℕ) → share a (lines t) k ≤ℚ share a (lines t) m ↔ k ≤ m
   share_order k m = (
-    λ l. let e = ≤ℚ_out _ _ _ _ _ _ _ _ (tick k) (tick m) l in divided_out k m (cycle a (lines t)) some_cycle (omega arith),
-    λ l. at_most_ticks (cycle a (lines t)) some_cycle _ _ _ _ _ _ (tick k) (tick m) (omega arith),
+    λ l. let e = ≤ℚ_out _ _ _ _ _ _ _ _ (tick k) (tick m) l in divided_out k m (cycle a (link_base t)) some_cycle (omega arith),
+    λ l. at_most_ticks (cycle a (link_base t)) some_cycle _ _ _ _ _ _ (tick k) (tick m) (omega arith),
   )
 
   module _ (d : Dir) (i k : ℕ) (s : HasSignal a i) where
-    both_ticks : IsRatio (share a (lines t) (wait a (lines t) d i) +ℚ share a (lines t) k) (wait a (lines t) d i + k) (0 + 0) (cycle a (lines t))
-    both_ticks = joined_ticks (cycle a (lines t)) some_cycle _ _ _ _ _ _ (tick (wait a (lines t) d i)) (tick k)
+    both_ticks : IsRatio (share a (lines t) (wait a (lines t) d i) +ℚ share a (lines t) k) (wait a (lines t) d i + k) (0 + 0) (cycle a (link_base t))
+    both_ticks = joined_ticks (cycle a (link_base t)) some_cycle _ _ _ _ _ _ (tick (wait a (lines t) d i)) (tick k)
 
-    green_ticks : IsRatio (green_part a d i) (cycle a (lines t) + 0) (0 + red_parts a d i * t.unit) (cycle a (lines t))
-    green_ticks = less_ticks (cycle a (lines t)) some_cycle _ _ _ _ _ _ (one_cycle (cycle a (lines t)) some_cycle) (parted a (lines t) (parts_above a h) some_unit (red_parts a d i))
+    green_ticks : IsRatio (green_part a d i) (cycle a (link_base t) + 0) (0 + red_parts a d i * t.unit) (cycle a (link_base t))
+    green_ticks = less_ticks (cycle a (link_base t)) some_cycle _ _ _ _ _ _ (one_cycle (cycle a (link_base t)) some_cycle) (parted a (lines t) (parts_above a h) some_unit (red_parts a d i))
 
     -- a wait and a half fit into the green, in ticks and in shares
-    fit_order : (share a (lines t) (wait a (lines t) d i) +ℚ share a (lines t) k) ≤ℚ green_part a d i ↔ wait a (lines t) d i + k ≤ cycle a (lines t) - red_ticks a (lines t) d i
+    fit_order : (share a (lines t) (wait a (lines t) d i) +ℚ share a (lines t) k) ≤ℚ green_part a d i ↔ wait a (lines t) d i + k ≤ cycle a (link_base t) - red_ticks a (link_base t) d i
     fit_order = (
       λ l. let r = red_less a (lines t) h u d i s in
           let e = ≤ℚ_out _ _ _ _ _ _ _ _ both_ticks green_ticks l in
-          let f = divided_out (wait a (lines t) d i + k + red_parts a d i * t.unit) (cycle a (lines t)) (cycle a (lines t)) some_cycle (omega arith) in omega arith,
-      λ l. let r = red_less a (lines t) h u d i s in at_most_ticks (cycle a (lines t)) some_cycle _ _ _ _ _ _ both_ticks green_ticks (omega arith),
+          let f = divided_out (wait a (lines t) d i + k + red_parts a d i * t.unit) (cycle a (link_base t)) (cycle a (link_base t)) some_cycle (omega arith) in omega arith,
+      λ l. let r = red_less a (lines t) h u d i s in at_most_ticks (cycle a (link_base t)) some_cycle _ _ _ _ _ _ both_ticks green_ticks (omega arith),
     )
 
     -- the symmetric window lemma in shares

@@ -35,13 +35,13 @@ module _ (a : Street) (box : Area) (t : LinkRecord) (c : LinkCounts a box t) (ws
   pub link_leaf_covers : (value : ℚ) → CoversLinks a value (link_sum a box ws) → link_value a t ≤ℚ value
   link_leaf_covers value m =
       subst (λ z. z ≤ℚ value) (link_goal_value a t c.street c.good)
-      (covered (link_width (count a)) (link_point a t) (link_point_width a t c.good.plan c.good.base.shape c.street.signals) (link_point_not_negative a t c.street c.good)
+      (covered (link_width (count a)) (link_point a t) (link_point_width a t c.good.formed c.good.base.shape c.street.signals) (link_point_not_negative a t c.street c.good)
       (link_goal a) value (link_sum a box ws) link_leaf_met m)
 
   -- or leaves no such timing
   pub link_leaf_refutes : RefutesLinks a (link_sum a box ws) → ⊥
   link_leaf_refutes m =
-      refuted (link_width (count a)) (link_point a t) (link_point_width a t c.good.plan c.good.base.shape c.street.signals) (link_point_not_negative a t c.street c.good)
+      refuted (link_width (count a)) (link_point a t) (link_point_width a t c.good.formed c.good.base.shape c.street.signals) (link_point_not_negative a t c.street c.good)
       (link_sum a box ws) link_leaf_met m
 
 -- ---- trees

@@ -5,7 +5,8 @@ use Rattle.std.specs.Prelude.{map, IfSome, ◌+◌, ◌-◌}
 use Rattle.rational_theory.specs.Rational.{ℚ, ◌*ℚ◌, ◌≤ℚ◌, ◌<ℚ◌}
 use Rattle.progression.specs.Street.{Street, count, HasSignal, HasLink, red_parts, speed}
 use Rattle.progression.specs.Speeds.{number, run_low, run_high, change}
-use Rattle.progression.specs.TimingRecord.{TimingRecord, cycle, run}
+use Rattle.progression.specs.TimingRecord.{TimingRecord, base}
+use Rattle.progression.specs.BaseRecord.{BaseRecord, cycle, run}
 use Rattle.progression.specs.Green.{mod_ℤ, red_start, red_ticks}
 use Rattle.progression.specs.Lines.{advance, crossing, line_at}
 use Rattle.progression.specs.Good.{IsBase, pace_change}
@@ -35,8 +36,8 @@ module _ (a : Street) (out back : ℚ) (e : Bool) where
   module _ (t : TimingRecord) where
     other_crossing : (d : Dir) (j : ℕ) → crossing other t d j ≡ crossing a t d j
     other_crossing d zero = refl
-    other_crossing Outbound (suc j) = ap (λ z. z +ℤ advance a t Outbound j) (other_crossing Outbound j)
-    other_crossing Inbound (suc j) = ap (λ z. z +ℤ advance a t Inbound j) (other_crossing Inbound j)
+    other_crossing Outbound (suc j) = ap (λ z. z +ℤ advance a (base t) Outbound j) (other_crossing Outbound j)
+    other_crossing Inbound (suc j) = ap (λ z. z +ℤ advance a (base t) Inbound j) (other_crossing Inbound j)
 
     other_line : (d : Dir) (i : ℕ) → line_at other t d i ≡ line_at a t d i
     other_line Outbound i = other_crossing Outbound (i - 1)
@@ -45,26 +46,26 @@ module _ (a : Street) (out back : ℚ) (e : Bool) where
     other_ticks : (c : Column) → ticks other t c ≡ ticks a t c
     other_ticks (BandOf d) = refl
     other_ticks Frequency = refl
-    other_ticks (WaitOf Outbound i) = ap (λ z. mod_ℤ (z -ℤ (red_start a t Outbound i +ℤ pos (red_ticks a t Outbound i))) (cycle a t)) (other_line Outbound i)
-    other_ticks (WaitOf Inbound i) = ap (λ z. mod_ℤ (red_start a t Inbound i -ℤ z -ℤ pos t.band_in) (cycle a t)) (other_line Inbound i)
+    other_ticks (WaitOf Outbound i) = ap (λ z. mod_ℤ (z -ℤ (red_start a (base t) Outbound i +ℤ pos (red_ticks a (base t) Outbound i))) (cycle a (base t))) (other_line Outbound i)
+    other_ticks (WaitOf Inbound i) = ap (λ z. mod_ℤ (red_start a (base t) Inbound i -ℤ z -ℤ pos t.band_in) (cycle a (base t))) (other_line Inbound i)
     other_ticks (RunOf d i) = refl
     other_ticks (ShiftOf i) = refl
 
     other_point : point other t ≡ point a t
     other_point = λ i. map (λ c. share a t (other_ticks c i)) (columns (count a))
 
-  -- ---- the rules that don't speak of bands
-  other_base : (t : TimingRecord) → IsBase a t → IsBase other t
-  other_base t g = record {
-    plan = g.plan;
+  -- ---- the rules of a base
+  other_base : (b : BaseRecord) → IsBase a b → IsBase other b
+  other_base b g = record {
+    formed = g.formed;
     shape = g.shape;
     patterns = g.patterns;
     cycle_least = g.cycle_least;
     cycle_most = g.cycle_most;
-    fast = both (λ d. (i : ℕ) → HasLink a i → (run_low other d i *ℚ number t.grid) ≤ℚ number (run t d i)) (g.fast Outbound) (g.fast Inbound);
-    slow = both (λ d. (i : ℕ) → HasLink a i → number (run t d i) ≤ℚ (run_high other d i *ℚ number t.grid)) (g.slow Outbound) (g.slow Inbound);
-    rise = both (λ d. (i : ℕ) → HasLink a i → HasLink a (i + 1) → IfSome (change other d i) (λ (c : Pair). pace_change other t d i ≤ℚ (c.most *ℚ number t.grid))) (g.rise Outbound) (g.rise Inbound);
-    drop = both (λ d. (i : ℕ) → HasLink a i → HasLink a (i + 1) → IfSome (change other d i) (λ (c : Pair). (c.least *ℚ number t.grid) ≤ℚ pace_change other t d i)) (g.drop Outbound) (g.drop Inbound);
+    fast = both (λ d. (i : ℕ) → HasLink a i → (run_low other d i *ℚ number b.grid) ≤ℚ number (run b d i)) (g.fast Outbound) (g.fast Inbound);
+    slow = both (λ d. (i : ℕ) → HasLink a i → number (run b d i) ≤ℚ (run_high other d i *ℚ number b.grid)) (g.slow Outbound) (g.slow Inbound);
+    rise = both (λ d. (i : ℕ) → HasLink a i → HasLink a (i + 1) → IfSome (change other d i) (λ (c : Pair). pace_change other b d i ≤ℚ (c.most *ℚ number b.grid))) (g.rise Outbound) (g.rise Inbound);
+    drop = both (λ d. (i : ℕ) → HasLink a i → HasLink a (i + 1) → IfSome (change other d i) (λ (c : Pair). (c.least *ℚ number b.grid) ≤ℚ pace_change other b d i)) (g.drop Outbound) (g.drop Inbound);
   }
 
   -- ---- boxes
@@ -113,10 +114,10 @@ module _ (a : Street) where
   pub same_point : (t : TimingRecord) → point (plain a) t ≡ point a t
   same_point = other_point a (number 0) (number 0) false
 
-  pub plain_base : (t : TimingRecord) → IsBase a t → IsBase (plain a) t
+  pub plain_base : (b : BaseRecord) → IsBase a b → IsBase (plain a) b
   plain_base = other_base a (number 0) (number 0) false
 
-  pub from_plain_base : (t : TimingRecord) → IsBase (plain a) t → IsBase a t
+  pub from_plain_base : (b : BaseRecord) → IsBase (plain a) b → IsBase a b
   from_plain_base = other_base (plain a) a.head.least_out a.head.least_in a.head.equal
 
   pub plain_box : (box : Area) → IsBoxOf a box → IsBoxOf (plain a) box

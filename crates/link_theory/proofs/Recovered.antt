@@ -6,6 +6,7 @@ use Rattle.rational_theory.specs.Floor.{floor_ℚ}
 use Rattle.rational_theory.proofs.Ring.{zero-*ℚ}
 use Rattle.rational_theory.specs.Rows.{dot, IsMet}
 use Rattle.progression.specs.Street.{Street, count, HasLink}
+use Rattle.progression.specs.TimingRecord.{base}
 use Rattle.progression.specs.Speeds.{number}
 use Rattle.progression.specs.Good.{Good, IsBase}
 use Rattle.progression.specs.Columns.{Column, BandOf, ticks}
@@ -16,7 +17,7 @@ use Rattle.linear_theory.proofs.Places.{IsColumn}
 use Rattle.linear_theory.proofs.Points.{share, length-numbered, get-numbered}
 use Rattle.linear_theory.specs.Boxes.{Area}
 use Rattle.linear_theory.proofs.Ranges.{parts_above}
-use Rattle.link_theory.specs.LinkRecord.{LinkRecord, IsLinkRecord, lines, half}
+use Rattle.link_theory.specs.LinkRecord.{LinkRecord, IsLinkRecord, link_base, lines, half}
 use Rattle.link_theory.specs.GoodLinks.{GoodLinks, IsGreenAround}
 use Rattle.link_theory.specs.BestLinks.{link_value}
 use Rattle.link_theory.specs.LinkColumns.{half_place, link_point}
@@ -63,20 +64,20 @@ module _ (a : Street) (box : Area) (x : List ℚ) (h : IsStreet a) (v : IsLinkVe
   good_lines : Good (plain a) (lines timing)
   good_lines = subst (Good (plain a)) (same_timing a x ∙ sym same_lines) (timing_good (plain a) box x (plain_street a h) vertex (plain_whole a x w))
 
-  base_there : IsBase a (lines timing)
-  base_there = from_plain_base a (lines timing) good_lines.base
+  base_there : IsBase a (link_base timing)
+  base_there = from_plain_base a (link_base timing) good_lines.base
 
   -- ---- the halves
   half_is : (d : Dir) (i : ℕ) → HasLink a i → half timing d i ≡ half_ticks a x d i
   half_is Outbound i k = let l = k.0 in let m = k.1 in get-numbered (count a - 1) 1 (i - 1) (half_ticks a x Outbound) 0 (omega arith) ∙ ap (half_ticks a x Outbound) (omega arith)
   half_is Inbound i k = let l = k.0 in let m = k.1 in get-numbered (count a - 1) 1 (i - 1) (half_ticks a x Inbound) 0 (omega arith) ∙ ap (half_ticks a x Inbound) (omega arith)
 
-  plan : IsLinkRecord timing
-  plan =
+  formed : IsLinkRecord timing
+  formed =
       let s = base_there.shape in let two = h.signals in
       let o = length-numbered (count a - 1) 1 (half_ticks a x Outbound) in
       let b = length-numbered (count a - 1) 1 (half_ticks a x Inbound) in
-      record { lines = base_there.plan; half_out = omega arith; half_in = omega arith }
+      record { base = base_there.formed; half_out = omega arith; half_in = omega arith }
 
   -- ---- the point
   half_below : (d : Dir) (i : ℕ) → HasLink a i → half_place (count a) d i < length x
@@ -85,20 +86,20 @@ module _ (a : Street) (box : Area) (x : List ℚ) (h : IsStreet a) (v : IsLinkVe
 
   half_shown : (d : Dir) (i : ℕ) → HasLink a i → get_or (link_point a timing) (half_place (count a) d i) (number 0) ≡ get_or x (half_place (count a) d i) (number 0)
   half_shown d i k =
-      half_at a timing plan base_there.shape h.signals d i k
+      half_at a timing formed base_there.shape h.signals d i k
       ∙ ap (share a (lines timing)) (half_is d i k)
       ∙ sym (value_is a x (parts_above a h) v.not_negative (half_place (count a) d i) (half_below d i k))
 
   line_shown : (c : Column) → IsColumn (count a) c → get_or (link_point a timing) (place (count a) c) (number 0) ≡ get_or x (place (count a) c) (number 0)
   line_shown c k =
-      line_column_at a timing plan base_there.shape h.signals c k
+      line_column_at a timing formed base_there.shape h.signals c k
       ∙ ap (λ s. share a s (ticks a s c)) (same_lines ∙ sym (same_timing a x))
       ∙ ap (share a (timing_of (plain a) x)) (sym (same_ticks a (timing_of (plain a) x) c))
       ∙ sym (column_shown (plain a) box x (plain_street a h) vertex (plain_whole a x w) c k)
 
   pub point_is : link_point a timing ≡ x
   point_is =
-      let two = h.signals in let n = link_point_width a timing plan base_there.shape h.signals in
+      let two = h.signals in let n = link_point_width a timing formed base_there.shape h.signals in
       same_lists (link_point a timing) x (number 0) (n ∙ sym v.columns)
       (λ j l. elim (cases_lt j (width (count a))) [
         | inl b ↦ let c = column_at (count a) j (omega arith) b in
@@ -117,13 +118,13 @@ module _ (a : Street) (box : Area) (x : List ℚ) (h : IsStreet a) (v : IsLinkVe
 
   -- ---- the rules
   green_shown : (d : Dir) (e : End) (i : ℕ) → HasLink a i → IsGreenAround a timing d (signal_at e i) (half timing d i)
-  green_shown d e i k = (end_law a timing h plan base_there.shape d e i k).1 (row_shown (NearRow d e i) k, row_shown (FarRow d e i) k)
+  green_shown d e i k = (end_law a timing h formed base_there.shape d e i k).1 (row_shown (NearRow d e i) k, row_shown (FarRow d e i) k)
 
   pub links_good : GoodLinks a timing
   links_good = record {
-    plan = plan;
+    formed = formed;
     base = base_there;
-    ratio = λ i k. (link_ratio_law a timing h plan base_there.shape i k).1 (λ n. row_shown (LinkRatioRow i) (k, n));
+    ratio = λ i k. (link_ratio_law a timing h formed base_there.shape i k).1 (λ n. row_shown (LinkRatioRow i) (k, n));
     here = λ d i k. green_shown d Here i k;
     there = λ d i k. green_shown d Next i k;
   }

@@ -35,9 +35,9 @@ module _ (first_out : ℤ) (half_out : ℕ) where
   -- the rules that name no half are those of the worked timing
   good : IsGreenAround two_signals worked Outbound 1 half_out → IsGreenAround two_signals worked Outbound 2 half_out → GoodLinks two_signals worked
   good out_here out_next = let g = whole_greens.base in record {
-    plan = record { lines = record { grid = omega arith; unit = omega arith; reds = refl; run_out = refl; run_in = refl }; half_out = refl; half_in = refl };
+    formed = record { base = record { grid = omega arith; unit = omega arith; reds = refl; run_out = refl; run_in = refl }; half_out = refl; half_in = refl };
     base = record {
-      plan = record { grid = omega arith; unit = omega arith; reds = refl; run_out = refl; run_in = refl };
+      formed = record { grid = omega arith; unit = omega arith; reds = refl; run_out = refl; run_in = refl };
       shape = refl;
       patterns = g.patterns;
       cycle_least = g.cycle_least;

@@ -6,8 +6,8 @@ use Rattle.progression.specs.Columns.{point}
 use Rattle.progression.specs.declared.parts.Dir.{Dir}
 use Rattle.progression.specs.declared.parts.Dir.TheVariants.{Outbound, Inbound}
 use Rattle.progression.specs.Speeds.{number}
-use Rattle.progression.specs.TimingRecord.{cycle}
-use Rattle.link_theory.specs.LinkRecord.{LinkRecord, lines}
+use Rattle.progression.specs.BaseRecord.{cycle}
+use Rattle.link_theory.specs.LinkRecord.{LinkRecord, link_base, lines}
 
 -- how many columns n signals have, and where the half of link i stands, from 0
 abbrev pub link_width : ℕ → ℕ
@@ -19,7 +19,7 @@ half_place n Inbound i = 6 * n - 1 + i
 
 -- ticks as fractions of the cycle
 abbrev pub shares : Street → LinkRecord → List ℕ → List ℚ
-shares a t ks = map (λ k. number k /ℚ number (cycle a (lines t))) ks
+shares a t ks = map (λ k. number k /ℚ number (cycle a (link_base t))) ks
 
 -- the point of a link timing; the bands of its lines, in columns 0 and 1, are 0
 abbrev pub link_point : Street → LinkRecord → List ℚ

@@ -6,8 +6,8 @@
 //!
 //! Definitions, in the order in which they stand on each other:
 //!
-//! - `LinkRecord`: a link timing, and its two lines as a timing of `progression`, `lines t`. `GoodLinks a t`. `BestLinks a t`, with
-//!   `link_value`, `BoundedLinks`, `NoLinks`.
+//! - `LinkRecord`: a link timing, its base `link_base t`, the link timing of a base, `link_banded`, and the two lines as a timing of
+//!   `progression`, `lines t`. `GoodLinks a t`. `BestLinks a t`, with `link_value`, `BoundedLinks`, `NoLinks`.
 //! - `Plain`: `plain a`, the artery without least bands and equal bands, of which the lines are a good timing.
 //! - `LinkColumns`: `link_width n`, `half_place n d i`, `link_point a t`. `LinkRows`: `LinkForm`, `link_line`, a form for
 //!   each family, `link_goal`.

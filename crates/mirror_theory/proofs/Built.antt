@@ -6,7 +6,8 @@ use Rattle.std.proofs.lemmas.Bool.{cases_lt}
 use Rattle.std.proofs.lemmas.Bool.Decides.{nat_tests}
 use Rattle.rational_theory.proofs.Integers.{+ℤ-*ℤ, neg_ℤ-*ℤ, *ℤ-+ℤ}
 use Rattle.progression.specs.Street.{Street, count, HasSignal}
-use Rattle.progression.specs.TimingRecord.{TimingRecord, cycle}
+use Rattle.progression.specs.TimingRecord.{TimingRecord, base}
+use Rattle.progression.specs.BaseRecord.{cycle}
 use Rattle.progression.specs.Green.{mod_ℤ, red_start, red_ticks, BandIsGreen}
 use Rattle.progression.specs.Lines.{crossing}
 use Rattle.progression.proofs.Remainders.{split_ℤ, mod_unique, mod-turns, quot_ℤ}
@@ -63,15 +64,15 @@ better p q c = elim (cases_lt q p) [
   | inr w ↦ inl (rw (le_true p q w) refl, w)
 ]
 
-pub taken_is : (a : Street) (t : TimingRecord) (x : ℤ) (i : ℕ) → taken a t x i ≡ wait_in_phase a t x i (phase_of a t x i) + red_ticks a t Outbound i + red_ticks a t Outbound i
-taken_is a t x i = elim (better (wait_in_phase a t x i 0) (wait_in_phase a t x i (cycle a t)) (cycle a t)) [
+pub taken_is : (a : Street) (t : TimingRecord) (x : ℤ) (i : ℕ) → taken a t x i ≡ wait_in_phase a t x i (phase_of a t x i) + red_ticks a (base t) Outbound i + red_ticks a (base t) Outbound i
+taken_is a t x i = elim (better (wait_in_phase a t x i 0) (wait_in_phase a t x i (cycle a (base t))) (cycle a (base t))) [
   | inl w ↦ let l = w.1 in rw w.0 (omega arith)
   | inr w ↦ let l = w.1 in rw w.0 (omega arith)
 ]
 
 -- it is 0, or half a cycle
-pub phase_half : (a : Street) (t : TimingRecord) (x : ℤ) (i : ℕ) → (phase_of a t x i ≡ 0) ⊎ (phase_of a t x i + phase_of a t x i ≡ cycle a t + cycle a t)
-phase_half a t x i = elim (better (wait_in_phase a t x i 0) (wait_in_phase a t x i (cycle a t)) (cycle a t)) [
+pub phase_half : (a : Street) (t : TimingRecord) (x : ℤ) (i : ℕ) → (phase_of a t x i ≡ 0) ⊎ (phase_of a t x i + phase_of a t x i ≡ cycle a (base t) + cycle a (base t))
+phase_half a t x i = elim (better (wait_in_phase a t x i 0) (wait_in_phase a t x i (cycle a (base t))) (cycle a (base t))) [
   | inl w ↦ inl w.0
   | inr w ↦ let e = w.0 in inr (omega arith)
 ]
@@ -79,19 +80,19 @@ phase_half a t x i = elim (better (wait_in_phase a t x i 0) (wait_in_phase a t x
 -- ---- the built timing
 module _ (a : Street) (t : TimingRecord) (v : IsValid a) (u : 2 ≤ t.unit) (even : IsEven a t) (x : ℤ) (b : ℕ) (s : TimingRecord) (h : IsBuilt a t x b s) (runs : Runs a t x b) where
   abbrev twice : ℕ
-  twice = cycle a t + cycle a t
+  twice = cycle a (base t) + cycle a (base t)
 
-  cycle_twice : cycle a s ≡ twice
+  cycle_twice : cycle a (base s) ≡ twice
   cycle_twice = let e = cycle_kept a t 2 s h.keeps in omega (arith, e)
 
   some : 0 < twice
   some = let p = v.least_parts in let e : 2 * 2 ≤ a.head.parts * t.unit = mul-le p u in omega (arith, e)
 
-  red_twice : (d : Dir) (i : ℕ) → HasSignal a i → red_ticks a s d i ≡ red_ticks a t Outbound i + red_ticks a t Outbound i
+  red_twice : (d : Dir) (i : ℕ) → HasSignal a i → red_ticks a (base s) d i ≡ red_ticks a (base t) Outbound i + red_ticks a (base t) Outbound i
   red_twice Outbound i at = let e = red_ticks_kept a t 2 s h.keeps Outbound i in omega (arith, e)
   red_twice Inbound i at = let e = red_ticks_kept a t 2 s h.keeps Inbound i in let f = (even.reds i at).length in omega (arith, e, f)
 
-  start_same : (d : Dir) (i : ℕ) → HasSignal a i → red_start a s d i ≡ red_start a s Outbound i
+  start_same : (d : Dir) (i : ℕ) → HasSignal a i → red_start a (base s) d i ≡ red_start a (base s) Outbound i
   start_same Outbound i at = refl
   start_same Inbound i at = sym ((even_kept a t 2 s h.keeps even).reds i at).start
 
@@ -99,42 +100,42 @@ module _ (a : Street) (t : TimingRecord) (v : IsValid a) (u : 2 ≤ t.unit) (eve
   unit_twice = rw h.keeps.unit (omega arith)
 
   -- from signal 1 to signal j + 1
-  far_kept : (j : ℕ) → way a s Outbound j ≡ far a t (j + 1)
+  far_kept : (j : ℕ) → way a (base s) Outbound j ≡ far a t (j + 1)
   far_kept j =
       let e = way_kept a t 2 s h.keeps j in
       let one : (j + 1) - 1 ≡ j = omega arith in
-      let d = *ℤ-+ℤ (way a t Outbound j) (pos 1) (pos 1) in
+      let d = *ℤ-+ℤ (way a (base t) Outbound j) (pos 1) (pos 1) in
       rw one (omega (arith, ints, e, d))
 
-  red_from : (i : ℕ) (at : HasSignal a i) → red_start a s Outbound i ≡ pos (phase_of a t x i) -ℤ pos (red_ticks a t Outbound i) +ℤ quot_ℤ
-      (red_start a s Outbound i -ℤ (pos (phase_of a t x i) -ℤ pos (red_ticks a t Outbound i))) twice *ℤ pos twice
+  red_from : (i : ℕ) (at : HasSignal a i) → red_start a (base s) Outbound i ≡ pos (phase_of a t x i) -ℤ pos (red_ticks a (base t) Outbound i) +ℤ quot_ℤ
+      (red_start a (base s) Outbound i -ℤ (pos (phase_of a t x i) -ℤ pos (red_ticks a (base t) Outbound i))) twice *ℤ pos twice
   red_from i at = cycles_from twice _ _ some (h.reds i at)
 
   -- the band leaves room at signal i
-  room_at : (i : ℕ) → HasSignal a i → wait_in_phase a t x i (phase_of a t x i) + b ≤ twice - (red_ticks a t Outbound i + red_ticks a t Outbound i)
+  room_at : (i : ℕ) → HasSignal a i → wait_in_phase a t x i (phase_of a t x i) + b ≤ twice - (red_ticks a (base t) Outbound i + red_ticks a (base t) Outbound i)
   room_at i at = let e = taken_is a t x i in let f = runs i at in omega (arith, e, f)
 
   -- outbound, at signal j + 1
-  green_out : (j : ℕ) → j < count a → BandIsGreen (cycle a s) (red_start a s Outbound (j + 1)) (red_ticks a s Outbound (j + 1)) (crossing a s Outbound j) s.band_out
+  green_out : (j : ℕ) → j < count a → BandIsGreen (cycle a (base s)) (red_start a (base s) Outbound (j + 1)) (red_ticks a (base s) Outbound (j + 1)) (crossing a s Outbound j) s.band_out
   green_out j l =
       let i = j + 1 in
-      let r = red_ticks a t Outbound i in
+      let r = red_ticks a (base t) Outbound i in
       let at : HasSignal a i = (omega arith, omega arith) in
       let f = red_fits a s v unit_twice Outbound i at in
       let p = cycles_from twice x s.first_out some h.first_out in
       let c = crossing_out a s j in
       let w = far_kept j in
       let g : crossing a s Outbound j ≡ (x +ℤ far a t i) +ℤ quot_ℤ (s.first_out -ℤ x) twice *ℤ pos twice = omega (arith, ints, p, c, w) in
-      let e = wait_out_is twice r (phase_of a t x i) b (x +ℤ far a t i) (red_start a s Outbound i) (crossing a s Outbound j) (crossing a s Outbound j) _ _ (pos 0) some (red_from i at) g in
+      let e = wait_out_is twice r (phase_of a t x i) b (x +ℤ far a t i) (red_start a (base s) Outbound i) (crossing a s Outbound j) (crossing a s Outbound j) _ _ (pos 0) some (red_from i at) g in
       let room = room_at i at in
-      (window_after (cycle a s) (red_ticks a s Outbound i) (red_start a s Outbound i) (crossing a s Outbound j) s.band_out f.0 f.1).1
+      (window_after (cycle a (base s)) (red_ticks a (base s) Outbound i) (red_start a (base s) Outbound i) (crossing a s Outbound j) s.band_out f.0 f.1).1
       (rw (cycle_twice, red_twice Outbound i at, h.band_out, e) room)
 
   -- inbound, at signal j + 1
-  green_in : (j : ℕ) → j < count a → BandIsGreen (cycle a s) (red_start a s Inbound (j + 1)) (red_ticks a s Inbound (j + 1)) (crossing a s Inbound (count a - (j + 1))) s.band_in
+  green_in : (j : ℕ) → j < count a → BandIsGreen (cycle a (base s)) (red_start a (base s) Inbound (j + 1)) (red_ticks a (base s) Inbound (j + 1)) (crossing a s Inbound (count a - (j + 1))) s.band_in
   green_in j l =
       let i = j + 1 in
-      let r = red_ticks a t Outbound i in
+      let r = red_ticks a (base t) Outbound i in
       let q = crossing a s Inbound (count a - i) in
       let at : HasSignal a i = (omega arith, omega arith) in
       let f = red_fits a s v unit_twice Inbound i at in
@@ -145,11 +146,11 @@ module _ (a : Street) (t : TimingRecord) (v : IsValid a) (u : 2 ≤ t.unit) (eve
       let nothing : count a - (count a - 1 + 1) ≡ 0 = omega arith in
       let ends : crossing a s Inbound (count a - (count a - 1 + 1)) ≡ s.first_in = ap (crossing a s Inbound) nothing in
       let w = far_kept j in
-      let z : way a s Outbound (count a - 1) ≡ far a t (count a) = far_kept (count a - 1) ∙ ap (far a t) whole in
+      let z : way a (base s) Outbound (count a - 1) ≡ far a t (count a) = far_kept (count a - 1) ∙ ap (far a t) whole in
       let g : q ≡ neg_ℤ (x +ℤ far a t i) -ℤ pos b +ℤ quot_ℤ (s.first_in -ℤ mirrored a t x b) twice *ℤ pos twice = omega (arith, ints, p, here, back, ends, w, z) in
-      let e = wait_in_is twice r (phase_of a t x i) b (x +ℤ far a t i) (red_start a s Outbound i) q q _ (pos 0) _ some (red_from i at) g (phase_half a t x i) in
+      let e = wait_in_is twice r (phase_of a t x i) b (x +ℤ far a t i) (red_start a (base s) Outbound i) q q _ (pos 0) _ some (red_from i at) g (phase_half a t x i) in
       let room = room_at i at in
-      (window_before (cycle a s) (red_ticks a s Inbound i) (red_start a s Inbound i) q s.band_in f.0 f.1).1
+      (window_before (cycle a (base s)) (red_ticks a (base s) Inbound i) (red_start a (base s) Inbound i) q s.band_in f.0 f.1).1
       (rw (start_same Inbound i at, cycle_twice, red_twice Inbound i at, h.band_in, e) room)
 
   pub built_bands : HasEqualGreenBands a t 2 s
@@ -162,28 +163,29 @@ module _ (a : Street) (t : TimingRecord) (v : IsValid a) (u : 2 ≤ t.unit) (eve
         let j' = n - 1 - j in
         let one : n - (j' + 1) ≡ j = omega arith in
         let two : j' + 1 ≡ n - j = omega arith in
-        subst (λ i. BandIsGreen (cycle a s) (red_start a s Inbound i) (red_ticks a s Inbound i) (crossing a s Inbound j) s.band_in) two
-        (subst (λ k. BandIsGreen (cycle a s) (red_start a s Inbound (j' + 1)) (red_ticks a s Inbound (j' + 1)) (crossing a s Inbound k) s.band_in) one (green_in j' (omega arith)));
+        subst (λ i. BandIsGreen (cycle a (base s)) (red_start a (base s) Inbound i) (red_ticks a (base s) Inbound i) (crossing a s Inbound j) s.band_in) two
+        (subst (λ k. BandIsGreen (cycle a (base s)) (red_start a (base s) Inbound (j' + 1)) (red_ticks a (base s) Inbound (j' + 1)) (crossing a s Inbound k) s.band_in) one
+        (green_in j' (omega arith)));
   }
 
   pub built_centred : (d : Dir) (i : ℕ) → HasSignal a i → IsCentred a s d i (pos (phase_of a t x i))
   built_centred d i at = record {
-    half = red_ticks a t Outbound i;
+    half = red_ticks a (base t) Outbound i;
     halved = sym (red_twice d i at);
     begins = rw (cycle_twice, start_same d i at)
-        (let k = quot_ℤ (red_start a s Outbound i -ℤ (pos (phase_of a t x i) -ℤ pos (red_ticks a t Outbound i))) twice in
+        (let k = quot_ℤ (red_start a (base s) Outbound i -ℤ (pos (phase_of a t x i) -ℤ pos (red_ticks a (base t) Outbound i))) twice in
         let e = red_from i at in let f = neg_ℤ-*ℤ k (pos twice) in
-        same_tick twice (red_start a s Outbound i) (pos (phase_of a t x i) -ℤ pos (red_ticks a t Outbound i)) (neg_ℤ k) some (omega (arith, ints, e, f)));
+        same_tick twice (red_start a (base s) Outbound i) (pos (phase_of a t x i) -ℤ pos (red_ticks a (base t) Outbound i)) (neg_ℤ k) some (omega (arith, ints, e, f)));
   }
 
   -- signal 1 is in phase 0, and no band that runs is wider: these are the widest equal bands of all
-  pub half_cycle_best : wait_in_phase a t x 1 0 ≤ wait_in_phase a t x 1 (cycle a t) → IsWidest a t b → IsHalfCycleBest a t s
+  pub half_cycle_best : wait_in_phase a t x 1 0 ≤ wait_in_phase a t x 1 (cycle a (base t)) → IsWidest a t b → IsHalfCycleBest a t s
   half_cycle_best upright widest = record {
     has = built_bands;
     first = λ d. let e : phase_of a t x 1 ≡ 0 = rw (le_true _ _ upright) refl in rw e at (built_centred d 1 (omega arith, let f = v.few in omega arith));
-    centred = λ d i at. elim (better (wait_in_phase a t x i 0) (wait_in_phase a t x i (cycle a t)) (cycle a t)) [
+    centred = λ d i at. elim (better (wait_in_phase a t x i 0) (wait_in_phase a t x i (cycle a (base t))) (cycle a (base t))) [
       | inl w ↦ let e : phase_of a t x i ≡ 0 = w.0 in inl (rw e at (built_centred d i at))
-      | inr w ↦ let e : phase_of a t x i ≡ cycle a t = w.0 in inr (rw e at (built_centred d i at))
+      | inr w ↦ let e : phase_of a t x i ≡ cycle a (base t) = w.0 in inr (rw e at (built_centred d i at))
     ];
     widest = λ m other o g. rw h.band_out (no_wider a t v u even b widest m other o g);
   }

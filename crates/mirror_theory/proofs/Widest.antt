@@ -3,7 +3,8 @@ use Rattle.std.proofs.Common.{◌≡◌, inl, inr, ℕ, zero, suc, ℤ, ◌+◌,
 use Rattle.std.proofs.Math.Nat.{mul-le-mul_right, le_of_mul-le-mul_right}
 use Rattle.std.proofs.lemmas.Bool.{cases_lt}
 use Rattle.progression.specs.Street.{Street, count, HasSignal}
-use Rattle.progression.specs.TimingRecord.{TimingRecord, cycle}
+use Rattle.progression.specs.TimingRecord.{TimingRecord, base}
+use Rattle.progression.specs.BaseRecord.{cycle}
 use Rattle.artery_model.specs.Valid.{IsValid}
 use Rattle.mirror_theory.specs.EqualBands.{IsEven, HasEqualGreenBands, HasNone}
 use Rattle.mirror_theory.specs.Runs.{taken, Runs, IsWidest}
@@ -66,19 +67,19 @@ pub record RunsFrom (a : Street) (t : TimingRecord) (m w : ℕ) : Type 0 where
   pub wide : w ≤ band * m
 
 pub runs_from : (a : Street) (t : TimingRecord) (m w : ℕ) (x : ℤ) → 1 ≤ count a → 1 ≤ m
-    → ((i : ℕ) → HasSignal a i → taken a t x i * m + w ≤ (cycle a t + cycle a t) * m) → RunsFrom a t m w
+    → ((i : ℕ) → HasSignal a i → taken a t x i * m + w ≤ (cycle a (base t) + cycle a (base t)) * m) → RunsFrom a t m w
 runs_from a t m w x n o h =
     let e = greatest (count a - 1) (taken a t x) in
     let last : e.place ≤ count a = let l = e.last in omega arith in
     let full = h e.place (e.first, last) in
-    let fits : taken a t x e.place ≤ cycle a t + cycle a t = le_of_mul-le-mul_right {k = m} (omega (arith, full)) o in
-    let b = cycle a t + cycle a t - taken a t x e.place in
-    let parts : b + taken a t x e.place ≡ cycle a t + cycle a t = omega arith in
+    let fits : taken a t x e.place ≤ cycle a (base t) + cycle a (base t) = le_of_mul-le-mul_right {k = m} (omega (arith, full)) o in
+    let b = cycle a (base t) + cycle a (base t) - taken a t x e.place in
+    let parts : b + taken a t x e.place ≡ cycle a (base t) + cycle a (base t) = omega arith in
     record {
       first = x;
       band = b;
       runs = λ i s. let g = e.beats i s.0 (let l = s.1 in omega arith) in omega arith;
-      wide = let p : (b + taken a t x e.place) * m ≡ (cycle a t + cycle a t) * m = ap (λ y. y * m) parts in omega (arith, p, full);
+      wide = let p : (b + taken a t x e.place) * m ≡ (cycle a (base t) + cycle a (base t)) * m = ap (λ y. y * m) parts in omega (arith, p, full);
     }
 
 module _ (a : Street) (t : TimingRecord) (v : IsValid a) (u : 2 ≤ t.unit) (even : IsEven a t) where

@@ -3,7 +3,8 @@ use Rattle.std.proofs.Common.{◌≡◌, ℕ, zero, suc, pos, ◌+ℤ◌, ◌+�
 use Rattle.std.proofs.lemmas.Int.{ints}
 use Rattle.std.proofs.lemmas.List.{get_or-map, length-map}
 use Rattle.progression.specs.Street.{Street, count, HasSignal, HasLink}
-use Rattle.progression.specs.TimingRecord.{IsTimingRecord, pattern_of, common_red, run}
+use Rattle.progression.specs.TimingRecord.{base}
+use Rattle.progression.specs.BaseRecord.{IsBaseRecord, pattern_of, common_red, run}
 use Rattle.progression.specs.Lines.{crossing, advance, line_at}
 use Rattle.progression.specs.Columns.{Column, Frequency, RunOf, numbered}
 use Rattle.progression.specs.declared.parts.Dir.{Dir}
@@ -16,18 +17,18 @@ nth : {X : Type 0} (n i : ℕ) (f : ℕ → X) (d : X) → 1 ≤ i → i ≤ n �
 nth n i f d h k = get-numbered n 1 (i - 1) f d (omega arith) ∙ ap f (omega arith)
 
 module _ (a : Street) (unit : ℕ) (ticks : Column → ℕ) (pattern : ℕ → ℕ) where
-  pub run_is : (d : Dir) (i : ℕ) → HasLink a i → run (placed a unit ticks pattern) d i ≡ ticks (RunOf d i)
+  pub run_is : (d : Dir) (i : ℕ) → HasLink a i → run (base (placed a unit ticks pattern)) d i ≡ ticks (RunOf d i)
   run_is Outbound i h = let k = h.0 in let l = h.1 in nth (count a - 1) i (λ j. ticks (RunOf Outbound j)) 0 k (omega arith)
   run_is Inbound i h = let k = h.0 in let l = h.1 in nth (count a - 1) i (λ j. ticks (RunOf Inbound j)) 0 k (omega arith)
 
-  pub pattern_is : (i : ℕ) → HasSignal a i → pattern_of (placed a unit ticks pattern) i ≡ pattern i
+  pub pattern_is : (i : ℕ) → HasSignal a i → pattern_of (base (placed a unit ticks pattern)) i ≡ pattern i
   pattern_is i h = nth (count a) i pattern 0 h.0 h.1
 
   pub length-reds : 1 ≤ count a → length (reds_of a unit ticks pattern) ≡ count a
   length-reds h = let e = length-numbered (count a - 1) 2 (red_of a unit ticks pattern) in omega arith
 
-  pub is_plan : 1 ≤ count a → 1 ≤ ticks Frequency → 2 ≤ unit → IsTimingRecord (placed a unit ticks pattern)
-  is_plan h g u =
+  pub is_base : 1 ≤ count a → 1 ≤ ticks Frequency → 2 ≤ unit → IsBaseRecord (base (placed a unit ticks pattern))
+  is_base h g u =
       let n = length-numbered (count a) 1 pattern in
       let r = length-map (reds_of a unit ticks pattern) pos in
       let s = length-reds h in
@@ -35,7 +36,7 @@ module _ (a : Street) (unit : ℕ) (ticks : Column → ℕ) (pattern : ℕ → �
       let b = length-numbered (count a - 1) 1 (λ i. ticks (RunOf Inbound i)) in
       record { grid = g; unit = u; reds = omega arith; run_out = omega arith; run_in = omega arith }
 
-  pub next_red : (i : ℕ) → 2 ≤ i → i ≤ count a → common_red (placed a unit ticks pattern) i ≡ pos (red_of a unit ticks pattern i)
+  pub next_red : (i : ℕ) → 2 ≤ i → i ≤ count a → common_red (base (placed a unit ticks pattern)) i ≡ pos (red_of a unit ticks pattern i)
   next_red i h k =
       let f = red_of a unit ticks pattern in
       let rest = numbered (count a - 1) 2 f in
@@ -49,11 +50,11 @@ module _ (a : Street) (unit : ℕ) (ticks : Column → ℕ) (pattern : ℕ → �
   -- the outbound line does not depend on the reds
   same_crossing : (j : ℕ) → crossing a (placed a unit ticks pattern) Outbound j ≡ crossing a (with_out a unit ticks pattern) Outbound j
   same_crossing zero = refl
-  same_crossing (suc j) = ap (λ z. z +ℤ advance a (with_out a unit ticks pattern) Outbound j) (same_crossing j)
+  same_crossing (suc j) = ap (λ z. z +ℤ advance a (base (with_out a unit ticks pattern)) Outbound j) (same_crossing j)
 
   pub same_line : (i : ℕ) → line_at a (placed a unit ticks pattern) Outbound i ≡ line_at a (with_out a unit ticks pattern) Outbound i
   same_line i = same_crossing (i - 1)
 
   -- an outbound red ends its length after the common red's start, less what it begins before
-  pub red_end_is : (i : ℕ) → red_end a (placed a unit ticks pattern) i ≡ common_red (placed a unit ticks pattern) i +ℤ red_end a (with_out a unit ticks pattern) i
+  pub red_end_is : (i : ℕ) → red_end a (placed a unit ticks pattern) i ≡ common_red (base (placed a unit ticks pattern)) i +ℤ red_end a (with_out a unit ticks pattern) i
   red_end_is i = omega (arith, ints)

@@ -15,7 +15,8 @@ use Rattle.rational_theory.proofs.Rows.{≤ℚ-left}
 use Rattle.rational_theory.proofs.Shares.{≤ℚ_cancel}
 use Rattle.progression.specs.Street.{Street, count, red_parts, distance, HasSignal, HasLink, least_band}
 use Rattle.progression.specs.Speeds.{number, run_low, run_high, change}
-use Rattle.progression.specs.TimingRecord.{TimingRecord, cycle, run, band}
+use Rattle.progression.specs.TimingRecord.{TimingRecord, base, band}
+use Rattle.progression.specs.BaseRecord.{cycle, run}
 use Rattle.progression.specs.Green.{BandIsGreen, red_start, red_ticks}
 use Rattle.progression.specs.Lines.{crossing, line_at, IsGreenWay}
 use Rattle.progression.specs.Good.{Good, RatioHolds, pace_change, HasEqualBands, HasLeastBand}
@@ -39,7 +40,7 @@ use Rattle.recovery_theory.specs.Ticks.{unit_of, ticks_of}
 use Rattle.recovery_theory.specs.Placing.{pattern_at, timing_of}
 use Rattle.recovery_theory.specs.Vertices.{IsLongVertex, IsWhole, goal_at}
 use Rattle.recovery_theory.proofs.Multiples.{unit_least}
-use Rattle.recovery_theory.proofs.Placed.{is_plan}
+use Rattle.recovery_theory.proofs.Placed.{is_base}
 use Rattle.recovery_theory.proofs.Ticked.{some_cycle, wait_ticks}
 use Rattle.recovery_theory.proofs.Shown.{allowed, wait_is, sum_shown, row_shown}
 
@@ -58,23 +59,23 @@ module _ (a : Street) (box : Area) (x : List ℚ) (h : IsStreet a) (v : IsLongVe
 
   -- one over the cycle
   abbrev per_cycle : ℚ
-  per_cycle = inverse_ℚ (number (cycle a timing))
+  per_cycle = inverse_ℚ (number (cycle a (base timing)))
 
-  cycle_some : number 0 <ℚ number (cycle a timing)
-  cycle_some = number_above (cycle a timing) (some_cycle a box x h v)
+  cycle_some : number 0 <ℚ number (cycle a (base timing))
+  cycle_some = number_above (cycle a (base timing)) (some_cycle a box x h v)
 
   per_cycle_some : per_cycle ≡ number 0 → ⊥
-  per_cycle_some = inverse_not_zero (number (cycle a timing)) (above_not_zero _ cycle_some)
+  per_cycle_some = inverse_not_zero (number (cycle a (base timing))) (above_not_zero _ cycle_some)
 
   -- an inequality over the cycle, times the cycle
-  undivided : (y z : ℚ) → (y /ℚ number (cycle a timing)) ≤ℚ (z /ℚ number (cycle a timing)) → y ≤ℚ z
+  undivided : (y z : ℚ) → (y /ℚ number (cycle a (base timing))) ≤ℚ (z /ℚ number (cycle a (base timing))) → y ≤ℚ z
   undivided y z l = ≤ℚ_cancel y z per_cycle (inverse_not_negative _ cycle_some) per_cycle_some l
 
-  cycle_over : number (cycle a timing) /ℚ number (cycle a timing) ≡ number 1
-  cycle_over = *ℚ-inverse (number (cycle a timing)) (above_not_zero _ cycle_some)
+  cycle_over : number (cycle a (base timing)) /ℚ number (cycle a (base timing)) ≡ number 1
+  cycle_over = *ℚ-inverse (number (cycle a (base timing))) (above_not_zero _ cycle_some)
 
   -- ---- the cycle
-  pub cycle_least : (a.head.cycle.least *ℚ number timing.grid) ≤ℚ number (cycle a timing)
+  pub cycle_least : (a.head.cycle.least *ℚ number timing.grid) ≤ℚ number (cycle a (base timing))
   cycle_least =
       let least = a.head.cycle.least in
       let n = above_not_zero least h.cycle_least in
@@ -90,7 +91,7 @@ module _ (a : Street) (box : Area) (x : List ℚ) (h : IsStreet a) (v : IsLongVe
       let row = row_shown a box x h v w (cycle_low_form a) (omega arith, tt, tt) (v.rows (CycleLowRow 0) refl) in
       linear (record { count = 1; low = less_one ⊗ at 0 ⊕ zero_term; high = minus (at 1) } ∷ []) 0 (at 1) (at 0) (share a timing timing.grid ∷ inverse_ℚ a.head.cycle.most ∷ []) (row, tt) refl
 
-  cycle_most : number (cycle a timing) ≤ℚ (a.head.cycle.most *ℚ number timing.grid)
+  cycle_most : number (cycle a (base timing)) ≤ℚ (a.head.cycle.most *ℚ number timing.grid)
   cycle_most =
       let most = a.head.cycle.most in
       let n = above_not_zero most h.cycle_most in
@@ -102,8 +103,8 @@ module _ (a : Street) (box : Area) (x : List ℚ) (h : IsStreet a) (v : IsLongVe
   grid_some : 1 ≤ timing.grid
   grid_some = not_none timing.grid (λ e.
       let c = some_cycle a box x h v in
-      let l : number (cycle a timing) ≤ℚ number 0 = subst (λ y. number (cycle a timing) ≤ℚ y) (ap (λ g. a.head.cycle.most *ℚ number g) e ∙ *ℚ-zero a.head.cycle.most) cycle_most in
-      let m = ≤ℤ_whole (pos (cycle a timing)) (pos 0) l in
+      let l : number (cycle a (base timing)) ≤ℚ number 0 = subst (λ y. number (cycle a (base timing)) ≤ℚ y) (ap (λ g. a.head.cycle.most *ℚ number g) e ∙ *ℚ-zero a.head.cycle.most) cycle_most in
+      let m = ≤ℤ_whole (pos (cycle a (base timing))) (pos 0) l in
       absurd (omega (arith, ints)))
 
   -- ---- runs
@@ -112,22 +113,22 @@ module _ (a : Street) (box : Area) (x : List ℚ) (h : IsStreet a) (v : IsLongVe
   run_in_order Outbound i k f p = (omega arith, tt, (omega arith, k, tt))
   run_in_order Inbound i k f p = (omega arith, tt, (omega arith, k, tt))
 
-  fast : (d : Dir) (i : ℕ) → HasLink a i → (run_low a d i *ℚ number timing.grid) ≤ℚ number (run timing d i)
+  fast : (d : Dir) (i : ℕ) → HasLink a i → (run_low a d i *ℚ number timing.grid) ≤ℚ number (run (base timing) d i)
   fast d i s =
       let row = row_shown a box x h v w (fast_form a d i) (run_in_order d i s (run_low a d i) minus_one) (v.rows (FastRow d i) s) in
       undivided _ _ (linear (record { count = 1; low = at 0 ⊗ (at 1 ⊗ at 3) ⊕ (less_one ⊗ (at 2 ⊗ at 3) ⊕ zero_term); high = zero_term } ∷ []) 0
-      (at 0 ⊗ at 1 ⊗ at 3) (at 2 ⊗ at 3) (run_low a d i ∷ number timing.grid ∷ number (run timing d i) ∷ per_cycle ∷ []) (row, tt) refl)
+      (at 0 ⊗ at 1 ⊗ at 3) (at 2 ⊗ at 3) (run_low a d i ∷ number timing.grid ∷ number (run (base timing) d i) ∷ per_cycle ∷ []) (row, tt) refl)
 
-  pub slow : (d : Dir) (i : ℕ) → HasLink a i → number (run timing d i) ≤ℚ (run_high a d i *ℚ number timing.grid)
+  pub slow : (d : Dir) (i : ℕ) → HasLink a i → number (run (base timing) d i) ≤ℚ (run_high a d i *ℚ number timing.grid)
   slow d i s =
       let row = row_shown a box x h v w (slow_form a d i) (run_in_order d i s (neg_ℚ (run_high a d i)) (number 1)) (v.rows (SlowRow d i) s) in
       undivided _ _ (linear (record { count = 1; low = minus (at 0) ⊗ (at 1 ⊗ at 3) ⊕ (one ⊗ (at 2 ⊗ at 3) ⊕ zero_term); high = zero_term } ∷ []) 0
-      (at 2 ⊗ at 3) (at 0 ⊗ at 1 ⊗ at 3) (run_high a d i ∷ number timing.grid ∷ number (run timing d i) ∷ per_cycle ∷ []) (row, tt) refl)
+      (at 2 ⊗ at 3) (at 0 ⊗ at 1 ⊗ at 3) (run_high a d i ∷ number timing.grid ∷ number (run (base timing) d i) ∷ per_cycle ∷ []) (row, tt) refl)
 
   -- ---- changes of pace
   abbrev pace_values : Dir → ℕ → ℚ → List ℚ
   pace_values d i limit =
-      limit ∷ number timing.grid ∷ number (run timing d i) ∷ inverse_ℚ (number (distance a d i)) ∷ number (run timing d (i + 1)) ∷ inverse_ℚ (number (distance a d (i + 1)))
+      limit ∷ number timing.grid ∷ number (run (base timing) d i) ∷ inverse_ℚ (number (distance a d i)) ∷ number (run (base timing) d (i + 1)) ∷ inverse_ℚ (number (distance a d (i + 1)))
       ∷ per_cycle ∷ []
 
   abbrev change_term : Term
@@ -148,12 +149,12 @@ module _ (a : Street) (box : Area) (x : List ℚ) (h : IsStreet a) (v : IsLongVe
   pace_in_order Inbound i k l f p q = (omega arith, tt, (omega arith, k, (omega arith, l, tt)))
 
   module _ (i : ℕ) (k : HasLink a i) (l : HasLink a (i + 1)) (c : Pair) where
-    rise_holds : (d : Dir) → IsMet x (line a (rise_form a d i c)) → pace_change a timing d i ≤ℚ (c.most *ℚ number timing.grid)
+    rise_holds : (d : Dir) → IsMet x (line a (rise_form a d i c)) → pace_change a (base timing) d i ≤ℚ (c.most *ℚ number timing.grid)
     rise_holds d m =
         let row = row_shown a box x h v w (rise_form a d i c) (pace_in_order d i k l (neg_ℚ c.most) (neg_ℚ (one_over a d i)) (one_over a d (i + 1))) m in
         undivided _ _ (linear (record { count = 1; low = rise_term; high = zero_term } ∷ []) 0 change_term limit_term (pace_values d i c.most) (row, tt) refl)
 
-    drop_holds : (d : Dir) → IsMet x (line a (drop_form a d i c)) → (c.least *ℚ number timing.grid) ≤ℚ pace_change a timing d i
+    drop_holds : (d : Dir) → IsMet x (line a (drop_form a d i c)) → (c.least *ℚ number timing.grid) ≤ℚ pace_change a (base timing) d i
     drop_holds d m =
         let row = row_shown a box x h v w (drop_form a d i c) (pace_in_order d i k l c.least (one_over a d i) (neg_ℚ (one_over a d (i + 1)))) m in
         undivided _ _ (linear (record { count = 1; low = drop_term; high = zero_term } ∷ []) 0 limit_term change_term (pace_values d i c.least) (row, tt) refl)
@@ -163,12 +164,12 @@ module _ (a : Street) (box : Area) (x : List ℚ) (h : IsStreet a) (v : IsLongVe
   where_given P f None g m = tt
   where_given P f (Some c) g m = g c (m refl)
 
-  rise : (d : Dir) (i : ℕ) → HasLink a i → HasLink a (i + 1) → IfSome (change a d i) (λ (c : Pair). pace_change a timing d i ≤ℚ (c.most *ℚ number timing.grid))
-  rise d i k l = where_given (λ (c : Pair). pace_change a timing d i ≤ℚ (c.most *ℚ number timing.grid)) (rise_form a d i) (change a d i)
+  rise : (d : Dir) (i : ℕ) → HasLink a i → HasLink a (i + 1) → IfSome (change a d i) (λ (c : Pair). pace_change a (base timing) d i ≤ℚ (c.most *ℚ number timing.grid))
+  rise d i k l = where_given (λ (c : Pair). pace_change a (base timing) d i ≤ℚ (c.most *ℚ number timing.grid)) (rise_form a d i) (change a d i)
       (λ c m. rise_holds i k l c d m) (λ e. v.rows (RiseRow d i) (k, l, e))
 
-  drop : (d : Dir) (i : ℕ) → HasLink a i → HasLink a (i + 1) → IfSome (change a d i) (λ (c : Pair). (c.least *ℚ number timing.grid) ≤ℚ pace_change a timing d i)
-  drop d i k l = where_given (λ (c : Pair). (c.least *ℚ number timing.grid) ≤ℚ pace_change a timing d i) (drop_form a d i) (change a d i)
+  drop : (d : Dir) (i : ℕ) → HasLink a i → HasLink a (i + 1) → IfSome (change a d i) (λ (c : Pair). (c.least *ℚ number timing.grid) ≤ℚ pace_change a (base timing) d i)
+  drop d i k l = where_given (λ (c : Pair). (c.least *ℚ number timing.grid) ≤ℚ pace_change a (base timing) d i) (drop_form a d i) (change a d i)
       (λ c m. drop_holds i k l c d m) (λ e. v.rows (DropRow d i) (k, l, e))
 
   -- ---- the ratio of the bands
@@ -208,10 +209,10 @@ module _ (a : Street) (box : Area) (x : List ℚ) (h : IsStreet a) (v : IsLongVe
   abbrev least_fact : Fact
   least_fact = record { count = 1; low = less_one ⊗ at 1 ⊕ zero_term; high = minus (at 0) }
 
-  least_shown : (least : ℚ) (ticks : ℕ) → AllHold (least_fact ∷ []) (least ∷ share a timing ticks ∷ []) → (least *ℚ number (cycle a timing)) ≤ℚ number ticks
+  least_shown : (least : ℚ) (ticks : ℕ) → AllHold (least_fact ∷ []) (least ∷ share a timing ticks ∷ []) → (least *ℚ number (cycle a (base timing))) ≤ℚ number ticks
   least_shown least ticks row =
       undivided _ _ (subst (λ y. y ≤ℚ share a timing ticks)
-      (sym (*ℚ_assoc least (number (cycle a timing)) per_cycle ∙ ap (λ y. least *ℚ y) cycle_over ∙ ring (at 0 ⊗ lit (pos 1)) (at 0) (least ∷ []) refl))
+      (sym (*ℚ_assoc least (number (cycle a (base timing))) per_cycle ∙ ap (λ y. least *ℚ y) cycle_over ∙ ring (at 0 ⊗ lit (pos 1)) (at 0) (least ∷ []) refl))
       (linear (least_fact ∷ []) 0 (at 0) (at 1) (least ∷ share a timing ticks ∷ []) row refl))
 
   least_from : (d : Dir) → (least_band a d ≡ number 0 → ⊥) → HasLeastBand a timing d
@@ -220,7 +221,7 @@ module _ (a : Street) (box : Area) (x : List ℚ) (h : IsStreet a) (v : IsLongVe
 
   -- where there is none, each band is wide enough
   least_none : (d : Dir) → least_band a d ≡ number 0 → HasLeastBand a timing d
-  least_none d e = rw (e, zero-*ℚ (number (cycle a timing))) (number_not_negative (band timing d))
+  least_none d e = rw (e, zero-*ℚ (number (cycle a (base timing)))) (number_not_negative (band timing d))
 
   least_by : (d : Dir) (o : Ordering) → MatchOrdering o (least_band a d <ℚ number 0) (least_band a d ≡ number 0) (number 0 <ℚ least_band a d) → HasLeastBand a timing d
   least_by d Less l = least_from d (λ q. <ℚ_not-≤ℚ _ _ l (rw q (≤ℚ_refl (number 0))))
@@ -243,42 +244,44 @@ module _ (a : Street) (box : Area) (x : List ℚ) (h : IsStreet a) (v : IsLongVe
 
   -- ---- greens
   -- each red is two ticks long or more, and shorter than the cycle
-  red_some : (d : Dir) (i : ℕ) → HasSignal a i → 2 ≤ red_ticks a timing d i
+  red_some : (d : Dir) (i : ℕ) → HasSignal a i → 2 ≤ red_ticks a (base timing) d i
   red_some d i s = product_least (red_parts a d i) (unit_of a x) (h.red d i s) (unit_least a x)
 
-  red_less : (d : Dir) (i : ℕ) → HasSignal a i → red_ticks a timing d i < cycle a timing
+  red_less : (d : Dir) (i : ℕ) → HasSignal a i → red_ticks a (base timing) d i < cycle a (base timing)
   red_less d i s = product_below (red_parts a d i) a.head.parts (unit_of a x) (h.green d i s) (unit_least a x)
 
   -- each band is green at each signal, by its number
-  green_at : (d : Dir) (i : ℕ) → HasSignal a i → BandIsGreen (cycle a timing) (red_start a timing d i) (red_ticks a timing d i) (line_at a timing d i) (band timing d)
+  green_at : (d : Dir) (i : ℕ) → HasSignal a i → BandIsGreen (cycle a (base timing)) (red_start a (base timing) d i) (red_ticks a (base timing) d i) (line_at a timing d i) (band timing d)
   green_at Outbound i s =
       let e = wait_is a box x h v w Outbound i s in
       let l = wait_ticks a box x h v Outbound i s in
       let r = red_less Outbound i s in
-      (window_after (cycle a timing) (red_ticks a timing Outbound i) (red_start a timing Outbound i) (line_at a timing Outbound i) timing.band_out (red_some Outbound i s) r).1 (omega arith)
+      (window_after (cycle a (base timing)) (red_ticks a (base timing) Outbound i) (red_start a (base timing) Outbound i) (line_at a timing Outbound i) timing.band_out
+      (red_some Outbound i s) r).1 (omega arith)
   green_at Inbound i s =
       let e = wait_is a box x h v w Inbound i s in
       let l = wait_ticks a box x h v Inbound i s in
       let r = red_less Inbound i s in
-      (window_before (cycle a timing) (red_ticks a timing Inbound i) (red_start a timing Inbound i) (line_at a timing Inbound i) timing.band_in (red_some Inbound i s) r).1 (omega arith)
+      (window_before (cycle a (base timing)) (red_ticks a (base timing) Inbound i) (red_start a (base timing) Inbound i) (line_at a timing Inbound i) timing.band_in (red_some Inbound i s) r).1
+      (omega arith)
 
   outbound : IsGreenWay a timing Outbound
   outbound j l =
       let e : j + 1 - 1 ≡ j = omega arith in
-      subst (λ k. BandIsGreen (cycle a timing) (red_start a timing Outbound (j + 1)) (red_ticks a timing Outbound (j + 1)) (crossing a timing Outbound k) timing.band_out)
+      subst (λ k. BandIsGreen (cycle a (base timing)) (red_start a (base timing) Outbound (j + 1)) (red_ticks a (base timing) Outbound (j + 1)) (crossing a timing Outbound k) timing.band_out)
       e (green_at Outbound (j + 1) (omega arith, omega arith))
 
   inbound : IsGreenWay a timing Inbound
   inbound j l =
       let e : count a - (count a - j) ≡ j = omega arith in
-      subst (λ k. BandIsGreen (cycle a timing) (red_start a timing Inbound (count a - j)) (red_ticks a timing Inbound (count a - j)) (crossing a timing Inbound k) timing.band_in)
+      subst (λ k. BandIsGreen (cycle a (base timing)) (red_start a (base timing) Inbound (count a - j)) (red_ticks a (base timing) Inbound (count a - j)) (crossing a timing Inbound k) timing.band_in)
       e (green_at Inbound (count a - j) (omega arith, omega arith))
 
   -- ---- all rules
   pub timing_good : Good a timing
   timing_good = record {
     base = record {
-      plan = is_plan a (unit_of a x) (ticks_of a x) (pattern_at a x) (some_signal a h) grid_some (unit_least a x);
+      formed = is_base a (unit_of a x) (ticks_of a x) (pattern_at a x) (some_signal a h) grid_some (unit_least a x);
       shape = length-numbered (count a) 1 (pattern_at a x);
       patterns = allowed a box x h v w;
       cycle_least = cycle_least;

@@ -4,7 +4,8 @@ use Rattle.rational_theory.specs.Rational.{ℚ, ◌+ℚ◌, ◌*ℚ◌, ◌≤�
 use Rattle.rational_theory.specs.Floor.{floor_ℚ}
 use Rattle.rational_theory.specs.Rows.{dot, IsMet}
 use Rattle.progression.specs.Street.{Street, count, allows, HasSignal, red_parts}
-use Rattle.progression.specs.TimingRecord.{TimingRecord, pattern_of}
+use Rattle.progression.specs.TimingRecord.{TimingRecord, base}
+use Rattle.progression.specs.BaseRecord.{pattern_of}
 use Rattle.progression.specs.Columns.{Column, BandOf, Frequency, WaitOf, RunOf, ShiftOf, shift, wait, ticks, pattern_shift}
 use Rattle.progression.specs.declared.parts.Dir.{Dir}
 use Rattle.progression.specs.declared.parts.Dir.TheVariants.{Outbound, Inbound}
@@ -41,19 +42,19 @@ module _ (a : Street) (box : Area) (x : List ℚ) (h : IsStreet a) (v : IsLongVe
   ranked : (i : ℕ) (s : HasSignal a i) → Has (shift_parts a x i) (shifts_of a i)
   ranked i s = record { rank = (w.shifts i s).rank; there = (w.shifts i s).there; is = sym (shift_parts_is i s) }
 
-  pattern_taken : (i : ℕ) → HasSignal a i → pattern_of timing i ≡ pattern_at a x i
+  pattern_taken : (i : ℕ) → HasSignal a i → pattern_of (base timing) i ≡ pattern_at a x i
   pattern_taken i s = pattern_is a (unit_of a x) (ticks_of a x) (pattern_at a x) i s
 
   -- each pattern is allowed, and has the vertex's shift
-  pub allowed : (i : ℕ) → HasSignal a i → IsTrue (allows a i (pattern_of timing i))
+  pub allowed : (i : ℕ) → HasSignal a i → IsTrue (allows a i (pattern_of (base timing) i))
   unfolding pattern_at
   allowed i s = subst (λ p. IsTrue (allows a i p)) (sym (pattern_taken i s)) (fitting_allowed a i (shift_parts a x i) (ranked i s))
 
-  shift_is : (i : ℕ) (s : HasSignal a i) → shift a timing i ≡ shift_at a i (w.shifts i s).rank
+  shift_is : (i : ℕ) (s : HasSignal a i) → shift a (base timing) i ≡ shift_at a i (w.shifts i s).rank
   unfolding pattern_at
   shift_is i s = ap (pattern_shift a i) (pattern_taken i s) ∙ fitting_shift a i (shift_parts a x i) (ranked i s) ∙ shift_parts_is i s
 
-  shift_ticks : (i : ℕ) → HasSignal a i → ticks_of a x (ShiftOf i) ≡ shift a timing i * unit_of a x
+  shift_ticks : (i : ℕ) → HasSignal a i → ticks_of a x (ShiftOf i) ≡ shift a (base timing) i * unit_of a x
   shift_ticks i s =
       let j = place (count a) (ShiftOf i) in
       let below = place_below (count a) (ShiftOf i) (some_signal a h) s in

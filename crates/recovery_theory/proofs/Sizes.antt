@@ -5,8 +5,9 @@ use Rattle.rational_theory.specs.Rational.{ℚ, ◌*ℚ◌, ◌≤ℚ◌}
 use Rattle.rational_theory.proofs.Order.{≤ℚ_trans, ≤ℚ-*ℚ, ≤ℤ_whole, whole-*ℤ}
 use Rattle.rational_theory.proofs.Ring.{one-*ℚ}
 use Rattle.progression.specs.Street.{Street, red_parts, HasSignal, HasLink}
+use Rattle.progression.specs.TimingRecord.{base}
 use Rattle.progression.specs.Speeds.{number, run_high}
-use Rattle.progression.specs.TimingRecord.{cycle, run}
+use Rattle.progression.specs.BaseRecord.{cycle, run}
 use Rattle.progression.specs.Columns.{BandOf, Frequency, WaitOf, RunOf}
 use Rattle.progression.specs.declared.parts.Dir.{Dir}
 use Rattle.linear_theory.proofs.Ranges.{some_signal}
@@ -40,7 +41,7 @@ module _ (a : Street) (box : Area) (x : List ℚ) (h : IsStreet a) (v : IsLongVe
         let g = timing_good a box x h v w in
         let t = timing_of a x in
         let m = ≤ℚ-*ℚ (number 1) a.head.cycle.least (number t.grid) l (number_not_negative t.grid) in
-        number-≤ t.grid (cycle a t) (≤ℚ_trans _ _ _ (subst (λ y. y ≤ℚ (a.head.cycle.least *ℚ number t.grid)) (one-*ℚ (number t.grid)) m) g.base.cycle_least)
+        number-≤ t.grid (cycle a (base t)) (≤ℚ_trans _ _ _ (subst (λ y. y ≤ℚ (a.head.cycle.least *ℚ number t.grid)) (one-*ℚ (number t.grid)) m) g.base.cycle_least)
 
     -- a run is no longer than so many seconds
     pub run_most : (d : Dir) (i seconds : ℕ) → HasLink a i → run_high a d i ≤ℚ number seconds → ticks_of a x (RunOf d i) ≤ seconds * ticks_of a x Frequency
@@ -49,6 +50,6 @@ module _ (a : Street) (box : Area) (x : List ℚ) (h : IsStreet a) (v : IsLongVe
         let t = timing_of a x in
         let e = run_is a (unit_of a x) (ticks_of a x) (pattern_at a x) d i k in
         let m = ≤ℚ-*ℚ (run_high a d i) (number seconds) (number t.grid) l (number_not_negative t.grid) in
-        let n : number (run t d i) ≤ℚ number (seconds * t.grid) =
+        let n : number (run (base t) d i) ≤ℚ number (seconds * t.grid) =
         ≤ℚ_trans _ _ _ (g.base.slow d i k) (subst (λ y. (run_high a d i *ℚ number t.grid) ≤ℚ y) (sym (whole-*ℤ (pos seconds) (pos t.grid))) m) in
         subst (λ r. r ≤ seconds * t.grid) e (number-≤ _ _ n)

@@ -3,7 +3,8 @@ use Rattle.std.proofs.Common.{◌≡◌, ℕ, zero, suc, ℤ, pos, ◌+ℤ◌, �
 use Rattle.std.proofs.lemmas.Int.{ints}
 use Rattle.rational_theory.proofs.Integers.{+ℤ-*ℤ, neg_ℤ-*ℤ}
 use Rattle.progression.specs.Street.{Street, count, signal_of, clearance, allows, HasSignal, HasLink}
-use Rattle.progression.specs.TimingRecord.{TimingRecord, pattern_of}
+use Rattle.progression.specs.TimingRecord.{TimingRecord, base}
+use Rattle.progression.specs.BaseRecord.{pattern_of}
 use Rattle.progression.specs.Green.{mod_ℤ, red_start}
 use Rattle.progression.specs.Lines.{crossing, line_at}
 use Rattle.progression.specs.Columns.{Column, BandOf, WaitOf, RunOf, ShiftOf, shift}
@@ -73,21 +74,21 @@ module _ (a : Street) (unit : ℕ) (ticks : Column → ℕ) (pattern : ℕ → �
   out_turned (suc (suc i)) h = next_turned (suc (suc i)) (omega arith) h.1
 
   -- inbound: at the last signal
-  last_turned : Turned (a.head.parts * unit) (red_start a timing Inbound (count a) -ℤ line_at a timing Inbound (count a) -ℤ pos (ticks (BandOf Inbound))) (ticks (WaitOf Inbound (count a)))
+  last_turned : Turned (a.head.parts * unit) (red_start a (base timing) Inbound (count a) -ℤ line_at a timing Inbound (count a) -ℤ pos (ticks (BandOf Inbound))) (ticks (WaitOf Inbound (count a)))
   last_turned =
-      let start = red_start a (with_reds a unit ticks pattern) Inbound (count a) in
+      let start = red_start a (base (with_reds a unit ticks pattern)) Inbound (count a) in
       let wait = ticks (WaitOf Inbound (count a)) in
       let band = ticks (BandOf Inbound) in
       let z : count a - count a ≡ 0 = omega arith in
       let e : line_at a timing Inbound (count a) ≡ pos (first_in_of a unit ticks pattern) = ap (crossing a timing Inbound) z in
       moved (omega (arith, ints, e)) (taken (start -ℤ pos wait -ℤ pos band) (start -ℤ pos band) (a.head.parts * unit) wait above (omega (arith, ints)))
 
-  module _ (allowed : (i : ℕ) → HasSignal a i → IsTrue (allows a i (pattern_of timing i))) (shifts : (i : ℕ) → HasSignal a i → ticks (ShiftOf i) ≡ shift a timing i * unit)
+  module _ (allowed : (i : ℕ) → HasSignal a i → IsTrue (allows a i (pattern_of (base timing) i))) (shifts : (i : ℕ) → HasSignal a i → ticks (ShiftOf i) ≡ shift a (base timing) i * unit)
       (blocks : (i : ℕ) → HasLink a i → WholeTicks a unit ticks i) where
     -- and from each signal to the one before
     step_turned : (i : ℕ) → HasLink a i
-        → Turned (a.head.parts * unit) (red_start a timing Inbound (i + 1) -ℤ line_at a timing Inbound (i + 1) -ℤ pos (ticks (BandOf Inbound))) (ticks (WaitOf Inbound (i + 1)))
-        → Turned (a.head.parts * unit) (red_start a timing Inbound i -ℤ line_at a timing Inbound i -ℤ pos (ticks (BandOf Inbound))) (ticks (WaitOf Inbound i))
+        → Turned (a.head.parts * unit) (red_start a (base timing) Inbound (i + 1) -ℤ line_at a timing Inbound (i + 1) -ℤ pos (ticks (BandOf Inbound))) (ticks (WaitOf Inbound (i + 1)))
+        → Turned (a.head.parts * unit) (red_start a (base timing) Inbound i -ℤ line_at a timing Inbound i -ℤ pos (ticks (BandOf Inbound))) (ticks (WaitOf Inbound i))
     step_turned i h m =
         let l = h.1 in
         let here : HasSignal a i = (h.0, omega arith) in
@@ -116,11 +117,12 @@ module _ (a : Street) (unit : ℕ) (ticks : Column → ℕ) (pattern : ℕ → �
         }
 
     in_turned_by : (d i : ℕ) → i + d ≡ count a → 1 ≤ i
-        → Turned (a.head.parts * unit) (red_start a timing Inbound i -ℤ line_at a timing Inbound i -ℤ pos (ticks (BandOf Inbound))) (ticks (WaitOf Inbound i))
+        → Turned (a.head.parts * unit) (red_start a (base timing) Inbound i -ℤ line_at a timing Inbound i -ℤ pos (ticks (BandOf Inbound))) (ticks (WaitOf Inbound i))
     in_turned_by zero i e h =
-        subst (λ k. Turned (a.head.parts * unit) (red_start a timing Inbound k -ℤ line_at a timing Inbound k -ℤ pos (ticks (BandOf Inbound))) (ticks (WaitOf Inbound k))) (omega arith) last_turned
+        subst (λ k. Turned (a.head.parts * unit) (red_start a (base timing) Inbound k -ℤ line_at a timing Inbound k -ℤ pos (ticks (BandOf Inbound))) (ticks (WaitOf Inbound k)))
+        (omega arith) last_turned
     in_turned_by (suc d) i e h = step_turned i (h, omega arith) (in_turned_by d (i + 1) (omega arith) (omega arith))
 
     pub in_turned : (i : ℕ) → HasSignal a i
-        → Turned (a.head.parts * unit) (red_start a timing Inbound i -ℤ line_at a timing Inbound i -ℤ pos (ticks (BandOf Inbound))) (ticks (WaitOf Inbound i))
+        → Turned (a.head.parts * unit) (red_start a (base timing) Inbound i -ℤ line_at a timing Inbound i -ℤ pos (ticks (BandOf Inbound))) (ticks (WaitOf Inbound i))
     in_turned i h = let k = h.1 in in_turned_by (count a - i) i (omega arith) h.0

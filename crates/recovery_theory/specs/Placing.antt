@@ -3,7 +3,8 @@ use Rattle.std.specs.Prelude.{ℕ, ◌-◌, ◌==◌, ◌&&◌, Bool, List, [], 
 use Rattle.rational_theory.specs.Rational.{ℚ}
 use Rattle.rational_theory.specs.Floor.{floor_ℚ}
 use Rattle.progression.specs.Street.{Street, count, allows}
-use Rattle.progression.specs.TimingRecord.{TimingRecord, cycle}
+use Rattle.progression.specs.TimingRecord.{TimingRecord, base}
+use Rattle.progression.specs.BaseRecord.{cycle}
 use Rattle.progression.specs.Green.{mod_ℤ, red_start, red_ticks}
 use Rattle.progression.specs.Lines.{line_at}
 use Rattle.progression.specs.Columns.{Column, BandOf, Frequency, WaitOf, RunOf, ShiftOf, numbered, pattern_shift}
@@ -31,7 +32,7 @@ pattern_at a x i = pattern_with a i (shift_parts a x i)
 -- ---- places
 -- where the outbound red of signal i ends
 abbrev pub red_end : Street → TimingRecord → ℕ → ℤ
-red_end a t i = red_start a t Outbound i +ℤ pos (red_ticks a t Outbound i)
+red_end a t i = red_start a (base t) Outbound i +ℤ pos (red_ticks a (base t) Outbound i)
 
 module _ (a : Street) (unit : ℕ) (ticks : Column → ℕ) (pattern : ℕ → ℕ) where
   -- the timing without its reds and first crossings: as if each common red began at 0
@@ -51,14 +52,14 @@ module _ (a : Street) (unit : ℕ) (ticks : Column → ℕ) (pattern : ℕ → �
 
   -- signal 1's common red begins at 0, and the outbound band crosses it a wait after the red's end
   abbrev pub first_out_of : ℕ
-  first_out_of = mod_ℤ (red_end a unplaced 1 +ℤ pos (ticks (WaitOf Outbound 1))) (cycle a unplaced)
+  first_out_of = mod_ℤ (red_end a unplaced 1 +ℤ pos (ticks (WaitOf Outbound 1))) (cycle a (base unplaced))
 
   abbrev pub with_out : TimingRecord
   with_out = record unplaced { first_out = pos first_out_of }
 
   -- each further red ends a wait before the outbound band crosses it
   abbrev pub red_of : ℕ → ℕ
-  red_of i = mod_ℤ (line_at a with_out Outbound i -ℤ pos (ticks (WaitOf Outbound i)) -ℤ red_end a with_out i) (cycle a with_out)
+  red_of i = mod_ℤ (line_at a with_out Outbound i -ℤ pos (ticks (WaitOf Outbound i)) -ℤ red_end a with_out i) (cycle a (base with_out))
 
   abbrev pub reds_of : List ℕ
   reds_of = 0 ∷ numbered (count a - 1) 2 red_of
@@ -68,7 +69,7 @@ module _ (a : Street) (unit : ℕ) (ticks : Column → ℕ) (pattern : ℕ → �
 
   -- the inbound band ends a wait before the red of the last signal
   abbrev pub first_in_of : ℕ
-  first_in_of = mod_ℤ (red_start a with_reds Inbound (count a) -ℤ pos (ticks (WaitOf Inbound (count a))) -ℤ pos (ticks (BandOf Inbound))) (cycle a with_reds)
+  first_in_of = mod_ℤ (red_start a (base with_reds) Inbound (count a) -ℤ pos (ticks (WaitOf Inbound (count a))) -ℤ pos (ticks (BandOf Inbound))) (cycle a (base with_reds))
 
   abbrev pub placed : TimingRecord
   placed = record with_reds { first_in = pos first_in_of }
