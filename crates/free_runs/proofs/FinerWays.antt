@@ -1,5 +1,5 @@
 -- Finer grids bring nothing where the limits of the runs are whole ticks.
-use Rattle.std.proofs.Common.{◌≡◌, ℕ, zero, suc, ℤ, pos, ◌+ℤ◌, ◌*ℤ◌, ◌+◌, ◌*◌, ◌<◌, ◌≤◌, ◌^◌, List, ap, subst, arith, Option, None, Some}
+use Rattle.std.proofs.Common.{◌≡◌, ℕ, zero, suc, ℤ, pos, ◌*ℤ◌, ◌+◌, ◌*◌, ◌<◌, ◌≤◌, ◌^◌, List, ap, subst, arith, Option, None, Some}
 use Rattle.std.specs.Prelude.{MatchOption, ◌↔◌}
 use Rattle.std.proofs.Math.Nat.{mul-le-mul_right, le_of_mul-le-mul_right}
 use Rattle.std.proofs.lemmas.Int.{ints}
@@ -7,15 +7,12 @@ use Rattle.rational_theory.specs.Rational.{ℚ, ◌*ℚ◌, ◌≤ℚ◌}
 use Rattle.rational_theory.proofs.Order.{≤ℚ_refl}
 use Rattle.progression.specs.Street.{Street, count}
 use Rattle.progression.specs.Speeds.{number, run_low, run_high}
-use Rattle.progression.specs.TimingRecord.{TimingRecord, cycle, run}
-use Rattle.progression.specs.Lines.{stop, leg}
+use Rattle.progression.specs.BaseRecord.{BaseRecord, cycle, run}
+use Rattle.progression.specs.Lines.{stop, leg, crossing_from, RunsOn}
 use Rattle.progression.specs.declared.parts.Dir.{Dir}
-use Rattle.time_space.specs.Finer.{finer}
+use Rattle.time_space.specs.Finer.{finer_base}
 use Rattle.time_space.proofs.GridLimits.{least_is, most_is}
 use Rattle.time_space.proofs.FinerGrids.{cycle_finer, red_start_finer, red_ticks_finer}
-use Rattle.band_measure.specs.Pairs.{RunsOn}
-use Rattle.band_measure.specs.Edges.{way as way_to}
-use Rattle.band_measure.proofs.Lines.{runs_is}
 use Rattle.band_measure.proofs.Gaps.{times_times}
 use Rattle.free_band.specs.Way.{Way, way, IsWay, Runs, NoneRunsFiner, IsWidestFiner, crossing, finer as finer_way, least_of, most_of}
 use Rattle.free_band.specs.declared.way.Signal.{Signal}
@@ -61,13 +58,13 @@ module _ (x : ℚ) (g whole limit m n : ℕ) (e : x *ℚ number g ≡ number who
       let q : whole * m ≤ limit * m = mul-le-mul_right m l in
       omega (arith, r, q)
 
-module _ (a : Street) (t : TimingRecord) (d : Dir) (signals : List Signal) (links : List Link) (h : IsOuterWayOf a t d signals links) (m : ℕ) (q : 1 ≤ m) (out ins : List ℕ)
-    (k : KeepsSpeeds a (with_runs out ins (finer m t)) d) where
+module _ (a : Street) (t : BaseRecord) (d : Dir) (signals : List Signal) (links : List Link) (h : IsOuterWayOf a t d signals links) (m : ℕ) (q : 1 ≤ m) (out ins : List ℕ)
+    (k : KeepsSpeeds a (with_runs out ins (finer_base m t)) d) where
   abbrev w : Way
   w = way (cycle a t) signals links
 
-  abbrev u : TimingRecord
-  u = with_runs out ins (finer m t)
+  abbrev u : BaseRecord
+  u = with_runs out ins (finer_base m t)
 
   abbrev taken : ℕ → ℕ
   taken j = run u d (leg d (count a) j)
@@ -78,7 +75,7 @@ module _ (a : Street) (t : TimingRecord) (d : Dir) (signals : List Signal) (link
   high : (j : ℕ) → j + 1 < count a → taken j ≤ most_of links j * m
   high j l = let i = leg_is d (count a) j l in (h.legs j l).limits.slow m (taken j) (k.slow (leg d (count a) j) i)
 
-  crossing_fine : (x : ℤ) (j : ℕ) → j < count a → crossing (finer_way m w) x taken j ≡ x +ℤ way_to a u d j
+  crossing_fine : (x : ℤ) (j : ℕ) → j < count a → crossing (finer_way m w) x taken j ≡ crossing_from a u d x j
   crossing_fine x zero l = omega (arith, ints)
   crossing_fine x (suc j) l =
       let e = crossing_fine x j (omega arith) in
@@ -90,7 +87,7 @@ module _ (a : Street) (t : TimingRecord) (d : Dir) (signals : List Signal) (link
     least = λ j l. low j (omega (arith, n, l));
     most = λ j l. high j (omega (arith, n, l));
     green = λ j l. let o : j < count a = omega (arith, n, l) in
-        let s = (runs_is a u x b d).0 g j o in
+        let s = g j o in
         let i = stop d (count a) j in
         let e = rw (red_start_finer a t m d i, red_ticks_finer a t m d i, cycle_finer a t m) at s in
         rw ((h.stops j o).start, (h.stops j o).red, crossing_fine x j o) e;
@@ -121,7 +118,7 @@ module _ (a : Street) (t : TimingRecord) (d : Dir) (signals : List Signal) (link
   widest_on band e x b g = e m x taken b q (on_finer x b g)
 
 -- whole limits hold on finer grids
-pub outer_of : (a : Street) (t : TimingRecord) (d : Dir) (signals : List Signal) (links : List Link) → IsWayOf a t d signals links → AreWholeLimits a t d → IsOuterWayOf a t d signals links
+pub outer_of : (a : Street) (t : BaseRecord) (d : Dir) (signals : List Signal) (links : List Link) → IsWayOf a t d signals links → AreWholeLimits a t d → IsOuterWayOf a t d signals links
 outer_of a t d signals links h v = record {
   count_signals = h.count_signals;
   count_links = h.count_links;
@@ -139,7 +136,7 @@ outer_of a t d signals links h v = record {
       };
 }
 
-pub found_finer : (a : Street) (t : TimingRecord) (d : Dir) (signals : List Signal) (links : List Link) → IsOuterWayOf a t d signals links → (best : Option FreeBand)
+pub found_finer : (a : Street) (t : BaseRecord) (d : Dir) (signals : List Signal) (links : List Link) → IsOuterWayOf a t d signals links → (best : Option FreeBand)
     → MatchOption best (NoneRunsFiner (way (cycle a t) signals links)) (λ f. IsWidestFiner (way (cycle a t) signals links) f.band)
     → MatchOption best (NoneFreeFiner a t d) (λ f. IsWidestFree a t d f.band)
 found_finer a t d signals links h None e = λ m q out ins x b k g. none_on a t d signals links h m q out ins k e x b g

@@ -2,8 +2,8 @@
 use Rattle.std.specs.Prelude.{◌≡◌, ℕ, ◌+◌, ◌*◌, ◌<◌, ◌≤◌, List, length}
 use Rattle.rational_theory.specs.Rational.{◌*ℚ◌, ◌≤ℚ◌}
 use Rattle.progression.specs.Street.{Street, count, clearance}
+use Rattle.progression.specs.BaseRecord.{BaseRecord}
 use Rattle.progression.specs.Speeds.{number, run_low, run_high}
-use Rattle.progression.specs.TimingRecord.{TimingRecord}
 use Rattle.progression.specs.Lines.{stop, leg}
 use Rattle.progression.specs.declared.parts.Dir.{Dir}
 use Rattle.free_band.specs.Way.{signal_of, link_of}
@@ -16,12 +16,12 @@ pub record AreOuter (a : Street) (d : Dir) (grid i least most : ℕ) : Type 0 wh
   pub fast : (m n : ℕ) → (run_low a d i *ℚ number (grid * m)) ≤ℚ number n → least * m ≤ n
   pub slow : (m n : ℕ) → number n ≤ℚ (run_high a d i *ℚ number (grid * m)) → n ≤ most * m
 
-pub record IsOuterLeg (a : Street) (t : TimingRecord) (d : Dir) (j : ℕ) (l : Link) : Type 0 where
+pub record IsOuterLeg (a : Street) (t : BaseRecord) (d : Dir) (j : ℕ) (l : Link) : Type 0 where
   pub limits : AreOuter a d t.grid (leg d (count a) j) l.least l.most
   pub clear : l.clear ≡ clearance a d (stop d (count a) (j + 1)) * t.unit
 
 -- the signals and links of the direction with such limits
-pub record IsOuterWayOf (a : Street) (t : TimingRecord) (d : Dir) (signals : List Signal) (links : List Link) : Type 0 where
+pub record IsOuterWayOf (a : Street) (t : BaseRecord) (d : Dir) (signals : List Signal) (links : List Link) : Type 0 where
   pub count_signals : length signals ≡ count a
   pub count_links : length links + 1 ≡ count a
   pub stops : (j : ℕ) → j < count a → IsStop a t d j (signal_of signals j)

@@ -1,18 +1,15 @@
--- What runs on the signals and links of a direction, and on the offsets of the timing.
-use Rattle.std.proofs.Common.{◌≡◌, ℕ, zero, suc, ℤ, pos, ◌+ℤ◌, ◌+◌, ◌-◌, ◌<◌, ◌≤◌, ◌^◌, List, refl, subst, arith, Option, None, Some}
+-- What runs on the signals and links of a direction, and on the offsets of the base.
+use Rattle.std.proofs.Common.{◌≡◌, ℕ, zero, suc, ℤ, pos, ◌+◌, ◌-◌, ◌<◌, ◌≤◌, ◌^◌, List, refl, subst, arith, Option, None, Some}
 use Rattle.std.specs.Prelude.{MatchOption}
 use Rattle.std.proofs.lemmas.Int.{ints}
 use Rattle.progression.specs.Street.{Street, count}
-use Rattle.progression.specs.TimingRecord.{TimingRecord, cycle, run}
+use Rattle.progression.specs.BaseRecord.{BaseRecord, cycle, run}
 use Rattle.progression.specs.Green.{BandIsGreen, red_start, red_ticks}
-use Rattle.progression.specs.Lines.{stop, leg}
+use Rattle.progression.specs.Lines.{stop, leg, crossing_from, RunsOn}
 use Rattle.progression.specs.declared.parts.Dir.{Dir}
 use Rattle.progression.specs.declared.parts.Dir.TheVariants.{Outbound, Inbound}
 use Rattle.time_space.specs.LinkRules.{LinkHolds}
 use Rattle.time_space.specs.declared.links.LinkRule.TheVariants as rule
-use Rattle.band_measure.specs.Pairs.{RunsOn}
-use Rattle.band_measure.specs.Edges.{way as way_to}
-use Rattle.band_measure.proofs.Lines.{runs_is}
 use Rattle.free_band.specs.Way.{Way, way, IsWay, Runs, NoneRuns, IsWidest, crossing, start_of, red_of, least_of, most_of}
 use Rattle.free_band.specs.Cells.{run_of}
 use Rattle.free_band.specs.declared.way.Signal.{Signal}
@@ -40,20 +37,20 @@ module _ (d : Dir) (n i : ℕ) (one : 1 ≤ i) (last : i < n) where
   unfolding place_of
   leg_of_place = elim d as (λ e. leg e n (place_of e n i) ≡ i) [ Outbound ↦ omega arith | Inbound ↦ omega arith ]
 
-module _ (a : Street) (t : TimingRecord) (d : Dir) (signals : List Signal) (links : List Link) (h : IsWayOf a t d signals links) where
+module _ (a : Street) (t : BaseRecord) (d : Dir) (signals : List Signal) (links : List Link) (h : IsWayOf a t d signals links) where
   abbrev w : Way
   w = way (cycle a t) signals links
 
   -- ---- other runs on the same offsets
   module _ (out ins : List ℕ) where
-    abbrev u : TimingRecord
+    abbrev u : BaseRecord
     u = with_runs out ins t
 
     abbrev taken : ℕ → ℕ
     taken j = run u d (leg d (count a) j)
 
     module _ (x : ℤ) (r : ℕ → ℕ) (same : (j : ℕ) → j + 1 < count a → taken j ≡ r j) where
-      crossing_is : (j : ℕ) → j < count a → crossing w x r j ≡ x +ℤ way_to a u d j
+      crossing_is : (j : ℕ) → j < count a → crossing w x r j ≡ crossing_from a u d x j
       crossing_is zero l = omega (arith, ints)
       crossing_is (suc j) l =
           let e = crossing_is j (omega arith) in
@@ -62,16 +59,16 @@ module _ (a : Street) (t : TimingRecord) (d : Dir) (signals : List Signal) (link
           omega (arith, ints, e, f, g)
 
       -- a green band at a place
-      green_is : (P : ℤ → ℕ → ℤ → Type 0) (j : ℕ) → j < count a → P (red_start a t d (stop d (count a) j)) (red_ticks a t d (stop d (count a) j)) (x +ℤ way_to a u d j)
+      green_is : (P : ℤ → ℕ → ℤ → Type 0) (j : ℕ) → j < count a → P (red_start a t d (stop d (count a) j)) (red_ticks a t d (stop d (count a) j)) (crossing_from a u d x j)
           → P (start_of signals j) (red_of signals j) (crossing w x r j)
       green_is P j l p = rw ((h.stops j l).start, (h.stops j l).red, crossing_is j l) p
 
       green_was : (P : ℤ → ℕ → ℤ → Type 0) (j : ℕ) → j < count a → P (start_of signals j) (red_of signals j) (crossing w x r j)
-          → P (red_start a t d (stop d (count a) j)) (red_ticks a t d (stop d (count a) j)) (x +ℤ way_to a u d j)
+          → P (red_start a t d (stop d (count a) j)) (red_ticks a t d (stop d (count a) j)) (crossing_from a u d x j)
       green_was P j l p = rw ((h.stops j l).start, (h.stops j l).red, crossing_is j l) at p
 
       pub runs_on : (b : ℕ) → Runs w x r b → RunsOn a u d x b
-      runs_on b g = let n = h.count_signals in (runs_is a u x b d).1 (λ j l. green_was (λ s red y. BandIsGreen (cycle a t) s red y b) j l (g.green j (omega (arith, n, l))))
+      runs_on b g = let n = h.count_signals in λ j l. green_was (λ s red y. BandIsGreen (cycle a t) s red y b) j l (g.green j (omega (arith, n, l)))
 
       pub speeds_kept : (b : ℕ) → Runs w x r b → KeepsSpeeds a u d
       speeds_kept b g = let n = h.count_signals in record {
@@ -89,7 +86,7 @@ module _ (a : Street) (t : TimingRecord) (d : Dir) (signals : List Signal) (link
             subst (λ q. LinkHolds a u rule.Slow d q) (leg_of_place d (count a) i l.0 l.1) (((h.legs j m).limits.slow (taken j)).1 (omega (arith, e, k)));
       }
 
-    -- ---- a timing that keeps the limits
+    -- ---- a base that keeps the limits
     module _ (k : KeepsSpeeds a u d) where
       pub low : (j : ℕ) → j + 1 < count a → least_of links j ≤ taken j
       low j l = let i = leg_is d (count a) j l in ((h.legs j l).limits.fast (taken j)).0 (k.fast (leg d (count a) j) i)
@@ -102,7 +99,7 @@ module _ (a : Street) (t : TimingRecord) (d : Dir) (signals : List Signal) (link
         least = λ j l. low j (omega (arith, n, l));
         most = λ j l. high j (omega (arith, n, l));
         green = λ j l. let m : j < count a = omega (arith, n, l) in
-            green_is x taken (λ i o. refl) (λ s red y. BandIsGreen (cycle a t) s red y b) j m ((runs_is a u x b d).0 g j m);
+            green_is x taken (λ i o. refl) (λ s red y. BandIsGreen (cycle a t) s red y b) j m (g j m);
       }
 
   -- ---- the answers

@@ -2,14 +2,14 @@
 
 ghost use Rattle.std.specs.Prelude.{◌≡◌, ◌+◌, ◌*◌, ◌<◌, ◌≤◌, ◌^◌, ◌↔◌, ℕ, pos, ◌*ℤ◌, ◌≤ℤ◌, unsigned_abs};
 ghost use Rattle.rational_theory.specs.Rational.{◌*ℚ◌, ◌≤ℚ◌};
-ghost use Rattle.progression.specs.{Street.{count}, Speeds.{number}};
+ghost use Rattle.progression.specs.{Street.{HasLink}, Speeds.{number}};
 ghost use Rattle.free_runs.specs.Street.{AreLimits};
 
 use crate::fractions::{denominator, numerator};
 use artery_model::Artery;
 use narrow_fraction::Frac;
 use progression::Dir;
-use time_space::Timing;
+use time_space::Base;
 
 /// The limits of the run on a link, in whole ticks: every run from `least` to `most` is within the limits of speed.
 ///
@@ -76,13 +76,12 @@ fn most_ticks(limit: Frac, grid: u128) -> u128
     most_of(top, bottom)
 }
 
-/// The limits of the run on a link from 1 to the last, on the timing's grid. On a coarse grid `least` may be above `most`.
-pub fn run_limits(artery: &Artery, timing: &Timing, dir: Dir, link: u32) -> RunLimits
-    requires first { 1 ≤ link }
-    requires last { link < count artery.now }
-    ensures { AreLimits artery.now dir timing.now.grid link result.least result.most }
+/// The limits of the run on a link from 1 to the last, on the base's grid. On a coarse grid `least` may be above `most`.
+pub fn run_limits(artery: &Artery, base: &Base, dir: Dir, link: u32) -> RunLimits
+    requires link { HasLink artery.now link }
+    ensures { AreLimits artery.now dir base.now.grid link result.least result.most }
 {
-    let grid = timing.grid();
+    let grid = base.grid();
     RunLimits {
         least: least_ticks(artery.run_low(dir, link), grid),
         most: most_ticks(artery.run_high(dir, link), grid),

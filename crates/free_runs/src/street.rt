@@ -1,16 +1,17 @@
 //! The signals and links of a direction, and its widest band.
 
-ghost use Rattle.std.specs.Prelude.{◌≡◌, ◌+◌, ◌-◌, ◌*◌, ◌<◌, ◌≤◌, ℕ, length, MatchOption, IfSome};
-ghost use Rattle.progression.specs.{Street.{count, clearance}, TimingRecord.{cycle}, Lines.{leg, stop}};
+ghost use Rattle.std.specs.Prelude.{◌≡◌, ◌+◌, ◌-◌, ◌*◌, ◌<◌, ◌≤◌, ℕ, MatchOption, IfSome};
+ghost use Rattle.progression.specs.{Street.{count, clearance}, BaseRecord.{cycle}, Lines.{leg, stop}};
 ghost use Rattle.artery_model.specs.Bounds.{most_signals};
 ghost use Rattle.free_band.specs.Way.{signal_of, link_of};
 ghost use Rattle.free_runs.specs.{Street.{IsStop, IsLeg, IsWayOf}, Free.{NoneFree, IsFree, AreWholeLimits, NoneFreeFiner, IsWidestFree}};
+ghost use Rattle.time_space.specs.Timing.{IsFor};
 
 use crate::limits::run_limits;
 use artery_model::Artery;
 use free_band::{FreeBand, Link, Signal, is_way, widest_free};
 use progression::Dir;
-use time_space::{Timing, cycle, red_start, red_ticks, stop};
+use time_space::{Base, stop};
 
 /// The link after a place in travel order.
 fn leg(dir: Dir, count: u32, place: u32) -> u32
@@ -27,54 +28,54 @@ fn leg(dir: Dir, count: u32, place: u32) -> u32
 }
 
 /// The reds of the signal at a place in travel order.
-fn signal_on(artery: &Artery, timing: &Timing, dir: Dir, place: u32) -> Signal
+fn signal_on(artery: &Artery, base: &Base, dir: Dir, place: u32) -> Signal
     requires on_way { place < count artery.now }
-    requires shape { length timing.now.patterns ≡ count artery.now }
-    ensures { IsStop artery.now timing.now dir place result }
+    requires shape { IsFor artery.now base.now }
+    ensures { IsStop artery.now base.now dir place result }
 {
     let signal = stop(dir, artery.count(), place);
     Signal {
-        start: red_start(artery, timing, dir, signal),
-        red: red_ticks(artery, timing, dir, signal),
+        start: base.red_start(artery, dir, signal),
+        red: base.red_ticks(artery, dir, signal),
     }
 }
 
 /// The clearance at the signal after a place, in ticks.
-fn clearance(artery: &Artery, timing: &Timing, dir: Dir, place: u32) -> u128
+fn clearance(artery: &Artery, base: &Base, dir: Dir, place: u32) -> u128
     requires on_way { place + 1 < count artery.now }
-    ensures { result ≡ clearance artery.now dir (stop dir (count artery.now) (place + 1)) * timing.now.unit }
+    ensures { result ≡ clearance artery.now dir (stop dir (count artery.now) (place + 1)) * base.now.unit }
 {
-    artery.clearance(dir, stop(dir, artery.count(), place + 1)) as u128 * timing.unit()
+    artery.clearance(dir, stop(dir, artery.count(), place + 1)) as u128 * base.unit()
 }
 
 /// The limits of the link after a place in travel order, and the clearance after it.
-fn link_on(artery: &Artery, timing: &Timing, dir: Dir, place: u32) -> Link
+fn link_on(artery: &Artery, base: &Base, dir: Dir, place: u32) -> Link
     requires on_way { place + 1 < count artery.now }
-    ensures { IsLeg artery.now timing.now dir place result }
+    ensures { IsLeg artery.now base.now dir place result }
 {
-    let limits = run_limits(artery, timing, dir, leg(dir, artery.count(), place));
+    let limits = run_limits(artery, base, dir, leg(dir, artery.count(), place));
     Link {
         least: limits.least,
         most: limits.most,
-        clear: clearance(artery, timing, dir, place),
+        clear: clearance(artery, base, dir, place),
     }
 }
 
 /// The signals in travel order.
-fn signals_on(artery: &Artery, timing: &Timing, dir: Dir) -> [Signal; 24]
-    requires shape { length timing.now.patterns ≡ count artery.now }
-    ensures { (j : ℕ) → j < count artery.now → IsStop artery.now timing.now dir j (signal_of result j) }
+fn signals_on(artery: &Artery, base: &Base, dir: Dir) -> [Signal; 24]
+    requires shape { IsFor artery.now base.now }
+    ensures { (j : ℕ) → j < count artery.now → IsStop artery.now base.now dir j (signal_of result j) }
 {
     let mut signals = [Signal { start: 0, red: 2 }; 24];
     for place in 0..artery.count() {
-        signals[place as usize] = signal_on(artery, timing, dir, place);
+        signals[place as usize] = signal_on(artery, base, dir, place);
     }
     signals
 }
 
 /// The links in travel order.
-fn links_on(artery: &Artery, timing: &Timing, dir: Dir) -> [Link; 24]
-    ensures { (j : ℕ) → j + 1 < count artery.now → IsLeg artery.now timing.now dir j (link_of result j) }
+fn links_on(artery: &Artery, base: &Base, dir: Dir) -> [Link; 24]
+    ensures { (j : ℕ) → j + 1 < count artery.now → IsLeg artery.now base.now dir j (link_of result j) }
 {
     let none = Link {
         least: 0,
@@ -83,7 +84,7 @@ fn links_on(artery: &Artery, timing: &Timing, dir: Dir) -> [Link; 24]
     };
     let mut links = [none; 24];
     for place in 0..artery.count() - 1 {
-        links[place as usize] = link_on(artery, timing, dir, place);
+        links[place as usize] = link_on(artery, base, dir, place);
     }
     links
 }
@@ -91,20 +92,20 @@ fn links_on(artery: &Artery, timing: &Timing, dir: Dir) -> [Link; 24]
 /// The widest band of signals and links.
 fn band_on(
     artery: &Artery,
-    timing: &Timing,
+    base: &Base,
     dir: Dir,
     signals: &[Signal],
     links: &[Link],
 ) -> Option<FreeBand>
-    requires { IsWayOf artery.now timing.now dir signals.now links.now }
-    ensures widest { MatchOption result (NoneFree artery.now timing.now dir) (λ f. IsFree artery.now timing.now dir f) }
-    ensures finer { AreWholeLimits artery.now timing.now dir → MatchOption result (NoneFreeFiner artery.now timing.now dir)
-        (λ f. IsWidestFree artery.now timing.now dir f.band) }
-    ensures first { IfSome result (λ f. f.first < cycle artery.now timing.now) }
-    ensures band { IfSome result (λ f. f.band < cycle artery.now timing.now) }
+    requires { IsWayOf artery.now base.now dir signals.now links.now }
+    ensures widest { MatchOption result (NoneFree artery.now base.now dir) (λ f. IsFree artery.now base.now dir f) }
+    ensures finer { AreWholeLimits artery.now base.now dir → MatchOption result (NoneFreeFiner artery.now base.now dir)
+        (λ f. IsWidestFree artery.now base.now dir f.band) }
+    ensures first { IfSome result (λ f. f.first < cycle artery.now base.now) }
+    ensures band { IfSome result (λ f. f.band < cycle artery.now base.now) }
 {
     artery.known_valid();
-    let cycle = cycle(artery, timing);
+    let cycle = base.cycle(artery);
     if is_way(cycle, signals, links) {
         widest_free(cycle, signals, links)
     } else {
@@ -112,21 +113,21 @@ fn band_on(
     }
 }
 
-/// The widest band of a direction on the offsets of a timing, with runs that have it, over all first lines and all runs that keep
+/// The widest band of a direction on the offsets of a base, with runs that have it, over all first lines and all runs that keep
 /// the limits of speed; or None where with no such runs any line is green all the way.
 ///
-/// The timing's own runs, firsts and bands play no part, and changes of pace aren't limited. Where the times that links take at
+/// The base's own runs play no part, and changes of pace aren't limited. Where the times that links take at
 /// their limits of speed are whole ticks, no finer grid has a wider band.
-pub fn widest_band(artery: &Artery, timing: &Timing, dir: Dir) -> Option<FreeBand>
-    requires shape { length timing.now.patterns ≡ count artery.now }
-    ensures widest { MatchOption result (NoneFree artery.now timing.now dir) (λ f. IsFree artery.now timing.now dir f) }
-    ensures finer { AreWholeLimits artery.now timing.now dir → MatchOption result (NoneFreeFiner artery.now timing.now dir)
-        (λ f. IsWidestFree artery.now timing.now dir f.band) }
-    ensures first { IfSome result (λ f. f.first < cycle artery.now timing.now) }
-    ensures band { IfSome result (λ f. f.band < cycle artery.now timing.now) }
+pub fn widest_band(artery: &Artery, base: &Base, dir: Dir) -> Option<FreeBand>
+    requires shape { IsFor artery.now base.now }
+    ensures widest { MatchOption result (NoneFree artery.now base.now dir) (λ f. IsFree artery.now base.now dir f) }
+    ensures finer { AreWholeLimits artery.now base.now dir → MatchOption result (NoneFreeFiner artery.now base.now dir)
+        (λ f. IsWidestFree artery.now base.now dir f.band) }
+    ensures first { IfSome result (λ f. f.first < cycle artery.now base.now) }
+    ensures band { IfSome result (λ f. f.band < cycle artery.now base.now) }
 {
-    let signals = signals_on(artery, timing, dir);
-    let links = links_on(artery, timing, dir);
+    let signals = signals_on(artery, base, dir);
+    let links = links_on(artery, base, dir);
     let count = artery.count() as usize;
-    band_on(artery, timing, dir, &signals[..count], &links[..count - 1])
+    band_on(artery, base, dir, &signals[..count], &links[..count - 1])
 }

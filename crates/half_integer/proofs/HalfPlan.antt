@@ -4,7 +4,8 @@ use Rattle.std.proofs.lemmas.List.{length-map}
 use Rattle.std.proofs.lemmas.Int.{ints}
 use Rattle.rational_theory.proofs.Integers.{neg_ℤ-*ℤ}
 use Rattle.progression.specs.Street.{Street, count, HasSignal}
-use Rattle.progression.specs.TimingRecord.{TimingRecord, cycle, common_red}
+use Rattle.progression.specs.TimingRecord.{TimingRecord, base}
+use Rattle.progression.specs.BaseRecord.{cycle, common_red}
 use Rattle.progression.specs.Green.{ahead, red_start, red_ticks}
 use Rattle.progression.specs.Columns.{numbered}
 use Rattle.progression.proofs.Remainders.{split_ℤ, quot_ℤ}
@@ -25,7 +26,7 @@ get-numbered zero i j f h = absurd (omega arith)
 get-numbered (suc n) i zero f h = ap (λ k. pos (f k)) (omega arith)
 get-numbered (suc n) i (suc j) f h = get-numbered n (i + 1) j f (omega arith) ∙ ap (λ k. pos (f k)) (omega arith)
 
-module _ (a : Street) (t : TimingRecord) (c : 0 < cycle a t) (shape : length t.patterns ≡ count a) (x : ℤ) (b : ℕ) where
+module _ (a : Street) (t : TimingRecord) (c : 0 < cycle a (base t)) (shape : length t.patterns ≡ count a) (x : ℤ) (b : ℕ) where
   pub half_plan_keeps : Keeps t 2 (half_plan a t x b)
   half_plan_keeps = record {
     grid = refl;
@@ -36,7 +37,7 @@ module _ (a : Street) (t : TimingRecord) (c : 0 < cycle a t) (shape : length t.p
     reds = length-map (numbered (count a) 1 (red_tick a t x)) pos ∙ length-numbered (count a) 1 (red_tick a t x) ∙ sym shape;
   }
 
-  red_is : (i : ℕ) → HasSignal a i → common_red (half_plan a t x b) i ≡ pos (red_tick a t x i)
+  red_is : (i : ℕ) → HasSignal a i → common_red (base (half_plan a t x b)) i ≡ pos (red_tick a t x i)
   red_is i h =
       let l = h.0 in
       let k = h.1 in
@@ -47,21 +48,21 @@ module _ (a : Street) (t : TimingRecord) (c : 0 < cycle a t) (shape : length t.p
   half_plan_built = record {
     keeps = half_plan_keeps;
     reds = λ i h.
-        let n = cycle a t + cycle a t in
-        let z = pos (phase_of a t x i + ahead a t Outbound i * 2) -ℤ pos (red_ticks a t Outbound i) in
+        let n = cycle a (base t) + cycle a (base t) in
+        let z = pos (phase_of a t x i + ahead a (base t) Outbound i * 2) -ℤ pos (red_ticks a (base t) Outbound i) in
         let s = split_ℤ z n (omega arith) in
         let e = red_is i h in
-        let f : ahead a (half_plan a t x b) Outbound i ≡ ahead a t Outbound i * 2 = ahead_kept a t 2 (half_plan a t x b) half_plan_keeps Outbound i in
+        let f : ahead a (base (half_plan a t x b)) Outbound i ≡ ahead a (base t) Outbound i * 2 = ahead_kept a t 2 (half_plan a t x b) half_plan_keeps Outbound i in
         let g = neg_ℤ-*ℤ (quot_ℤ z n) (pos n) in
-        same_tick n (pos (phase_of a t x i) -ℤ pos (red_ticks a t Outbound i)) (red_start a (half_plan a t x b) Outbound i) (neg_ℤ (quot_ℤ z n)) (omega arith)
+        same_tick n (pos (phase_of a t x i) -ℤ pos (red_ticks a (base t) Outbound i)) (red_start a (base (half_plan a t x b)) Outbound i) (neg_ℤ (quot_ℤ z n)) (omega arith)
         (omega (arith, ints, s, e, f, g));
     first_out =
-        let n = cycle a t + cycle a t in
+        let n = cycle a (base t) + cycle a (base t) in
         let s = split_ℤ (x -ℤ pos 0) n (omega arith) in
         let g = neg_ℤ-*ℤ (quot_ℤ (x -ℤ pos 0) n) (pos n) in
         same_tick n x (pos (first_out_tick a t x)) (neg_ℤ (quot_ℤ (x -ℤ pos 0) n)) (omega arith) (omega (arith, ints, s, g));
     first_in =
-        let n = cycle a t + cycle a t in
+        let n = cycle a (base t) + cycle a (base t) in
         let z = pos 0 -ℤ (x +ℤ far a t (count a) +ℤ pos b) in
         let s = split_ℤ z n (omega arith) in
         let g = neg_ℤ-*ℤ (quot_ℤ z n) (pos n) in

@@ -5,7 +5,8 @@ use Rattle.std.proofs.lemmas.Int.{ints}
 use Rattle.std.proofs.lemmas.Bool.{cases_eq}
 use Rattle.std.proofs.Math.Nat.{le_of_mul-le-mul_right}
 use Rattle.progression.specs.Street.{Street, signal_of, left_against}
-use Rattle.progression.specs.TimingRecord.{TimingRecord, pattern_of, common_red}
+use Rattle.progression.specs.TimingRecord.{TimingRecord, base}
+use Rattle.progression.specs.BaseRecord.{pattern_of, common_red}
 use Rattle.progression.specs.Green.{is_early, ahead}
 use Rattle.progression.specs.declared.parts.Dir.TheVariants.{Outbound, Inbound}
 use Rattle.mirror_theory.specs.EqualBands.{IsOneRed}
@@ -61,24 +62,24 @@ no_ticks x m e = rw e (omega arith)
 none_of : (x m : ℕ) → 1 ≤ m → x * m ≡ 0 → x ≡ 0
 none_of x m h e = same_factor x 0 m h (omega (arith, e))
 
-module _ (a : Street) (t : TimingRecord) (i : ℕ) (u : 1 ≤ t.unit) (l : 1 ≤ pattern_of t i) (m : pattern_of t i ≤ 4) where
-  one_red : left_against a Outbound i ≡ left_against a Inbound i → (left_against a Outbound i ≡ 0) ⊎ ¬ IsSplit (pattern_of t i) → IsOneRed a t i
+module _ (a : Street) (t : TimingRecord) (i : ℕ) (u : 1 ≤ t.unit) (l : 1 ≤ pattern_of (base t) i) (m : pattern_of (base t) i ≤ 4) where
+  one_red : left_against a Outbound i ≡ left_against a Inbound i → (left_against a Outbound i ≡ 0) ⊎ ¬ IsSplit (pattern_of (base t) i) → IsOneRed a t i
   one_red e w =
       let ticks : left_against a Outbound i * t.unit ≡ left_against a Inbound i * t.unit = ap (λ k. k * t.unit) e in
-      let none : (left_against a Outbound i * t.unit ≡ 0) ⊎ ¬ IsSplit (pattern_of t i) = elim w [ inl z ↦ inl (no_ticks (left_against a Outbound i) t.unit z) | inr n ↦ inr n ] in
+      let none : (left_against a Outbound i * t.unit ≡ 0) ⊎ ¬ IsSplit (pattern_of (base t) i) = elim w [ inl z ↦ inl (no_ticks (left_against a Outbound i) t.unit z) | inr n ↦ inr n ] in
       record {
-        start = ap (λ k. common_red t i -ℤ pos k) (both_ahead (pattern_of t i) (left_against a Outbound i * t.unit) (left_against a Inbound i * t.unit) l m ticks none);
+        start = ap (λ k. common_red (base t) i -ℤ pos k) (both_ahead (pattern_of (base t) i) (left_against a Outbound i * t.unit) (left_against a Inbound i * t.unit) l m ticks none);
         length = ap (λ k. ((signal_of a i).red + k) * t.unit) e;
       }
 
   lefts_same : IsOneRed a t i → left_against a Outbound i ≡ left_against a Inbound i
   lefts_same r = same_lefts (signal_of a i).red (left_against a Outbound i) (left_against a Inbound i) t.unit u r.length
 
-  none_split : IsOneRed a t i → IsSplit (pattern_of t i) → left_against a Outbound i ≡ 0
+  none_split : IsOneRed a t i → IsSplit (pattern_of (base t) i) → left_against a Outbound i ≡ 0
   none_split r s =
       let ticks : left_against a Outbound i * t.unit ≡ left_against a Inbound i * t.unit = ap (λ k. k * t.unit) (lefts_same r) in
-      let alike = same_start (common_red t i) (ahead a t Outbound i) (ahead a t Inbound i) r.start in
-      none_of (left_against a Outbound i) t.unit u (split_ahead (pattern_of t i) (left_against a Outbound i * t.unit) (left_against a Inbound i * t.unit) ticks s alike)
+      let alike = same_start (common_red (base t) i) (ahead a (base t) Outbound i) (ahead a (base t) Inbound i) r.start in
+      none_of (left_against a Outbound i) t.unit u (split_ahead (pattern_of (base t) i) (left_against a Outbound i * t.unit) (left_against a Inbound i * t.unit) ticks s alike)
 
   pub two_reds : IsUneven a t i → ¬ IsOneRed a t i
   two_reds (inl n) r = n (lefts_same r)
@@ -89,7 +90,7 @@ module _ (a : Street) (t : TimingRecord) (i : ℕ) (u : 1 ≤ t.unit) (l : 1 ≤
     | inr n ↦ absurd (h (inl n))
     | inl e ↦ elim (cases_eq (left_against a Outbound i) 0) [
       | inl z ↦ one_red e (inl z)
-      | inr n ↦ elim (split_or_not (pattern_of t i)) [
+      | inr n ↦ elim (split_or_not (pattern_of (base t) i)) [
         | inl s ↦ absurd (h (inr (e, n, s)))
         | inr s ↦ one_red e (inr s)
       ]
@@ -101,7 +102,7 @@ module _ (a : Street) (t : TimingRecord) (i : ℕ) (u : 1 ≤ t.unit) (l : 1 ≤
     | inr n ↦ inl n
     | inl e ↦ elim (cases_eq (left_against a Outbound i) 0) [
       | inl z ↦ absurd (h (one_red e (inl z)))
-      | inr n ↦ elim (split_or_not (pattern_of t i)) [
+      | inr n ↦ elim (split_or_not (pattern_of (base t) i)) [
         | inl s ↦ inr (e, n, s)
         | inr s ↦ absurd (h (one_red e (inr s)))
       ]

@@ -2,7 +2,8 @@
 use Rattle.std.proofs.Common.{◌≡◌, ℕ, ℤ, zero, suc, ◌+◌, ◌*◌, ◌<◌, ◌^◌, List, [], ◌∷◌, ◌++◌, length, get_or, map, refl, ap, sym, ◌∙◌, arith}
 use Rattle.progression.specs.Columns.{numbered}
 use Rattle.progression.specs.Street.{Street}
-use Rattle.progression.specs.TimingRecord.{TimingRecord, cycle}
+use Rattle.progression.specs.TimingRecord.{TimingRecord, base}
+use Rattle.progression.specs.BaseRecord.{cycle}
 use Rattle.half_integer.specs.HalfPlan.{red_tick}
 use Rattle.half_integer.specs.Fitting.{IsListTo, twice_at}
 
@@ -43,7 +44,7 @@ twice_whole xs items h = h.value ∙ twice_from xs 0 (twice_at xs) (λ j. ap (tw
 
 -- one more red
 pub red_next : (a : Street) (t : TimingRecord) (x : ℤ) (k : ℕ) (items more : List ℕ) (item : ℕ) → IsListTo (red_tick a t x) 1 k items → more ≡ items ++ item ∷ [] → item ≡ red_tick a t x (k + 1)
-    → item < cycle a t + cycle a t → cycle a t * 2 < 2 ^ 80 → IsListTo (red_tick a t x) 1 (k + 1) more
+    → item < cycle a (base t) + cycle a (base t) → cycle a (base t) * 2 < 2 ^ 80 → IsListTo (red_tick a t x) 1 (k + 1) more
 red_next a t x k items more item h e v l f =
     let g : k + 1 ≡ 1 + k = omega arith in
     list_next (red_tick a t x) 1 k items more item h e (v ∙ ap (red_tick a t x) g) (omega arith)

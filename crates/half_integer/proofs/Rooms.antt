@@ -1,7 +1,8 @@
 -- The room on a line, from what the fullest signal takes.
 use Rattle.std.proofs.Common.{zero, suc, ◌≡◌, Option, None, Some, inl, inr, pos, ◌-ℤ◌, ℕ, ℤ, ◌+ℤ◌, ◌+◌, ◌-◌, ◌<◌, ◌≤◌, arith}
 use Rattle.progression.specs.Street.{Street, count}
-use Rattle.progression.specs.TimingRecord.{TimingRecord, cycle}
+use Rattle.progression.specs.TimingRecord.{TimingRecord, base}
+use Rattle.progression.specs.BaseRecord.{cycle}
 use Rattle.mirror_theory.specs.Runs.{far, taken, wait_in_phase, Runs, IsWidest, phase_wait, candidate}
 use Rattle.half_integer.specs.Bands.{fullest}
 use Rattle.mirror_theory.proofs.Candidates.{far_next, runs_there, wait_half_later, wait_in_turn, wait_at_one, runs_turned}
@@ -27,16 +28,16 @@ full_fits a t x (suc k) i p q = elim (cases_lt i (suc k)) [
 ]
 
 -- a band runs exactly where it fits beside what the fullest signal takes
-pub runs_full : (a : Street) (t : TimingRecord) (x : ℤ) (b : ℕ) → 1 ≤ count a → Runs a t x b → fullest a t x (count a) + b ≤ cycle a t + cycle a t
+pub runs_full : (a : Street) (t : TimingRecord) (x : ℤ) (b : ℕ) → 1 ≤ count a → Runs a t x b → fullest a t x (count a) + b ≤ cycle a (base t) + cycle a (base t)
 runs_full a t x b n h =
     let one = h 1 (omega arith, n) in
-    fits_full a t x b (cycle a t + cycle a t) (omega arith) (count a) (λ i p q. h i (p, q))
+    fits_full a t x b (cycle a (base t) + cycle a (base t)) (omega arith) (count a) (λ i p q. h i (p, q))
 
-pub full_runs : (a : Street) (t : TimingRecord) (x : ℤ) (b : ℕ) → fullest a t x (count a) + b ≤ cycle a t + cycle a t → Runs a t x b
+pub full_runs : (a : Street) (t : TimingRecord) (x : ℤ) (b : ℕ) → fullest a t x (count a) + b ≤ cycle a (base t) + cycle a (base t) → Runs a t x b
 full_runs a t x b h = λ i s. let e = full_fits a t x (count a) i s.0 s.1 in omega arith
 
 -- so there is room where the fullest takes at most a cycle
-module _ (a : Street) (t : TimingRecord) (x : ℤ) (half most : ℕ) (e : half ≡ cycle a t) (f : most ≡ fullest a t x (count a)) (n : 1 ≤ count a) where
+module _ (a : Street) (t : TimingRecord) (x : ℤ) (half most : ℕ) (e : half ≡ cycle a (base t)) (f : most ≡ fullest a t x (count a)) (n : 1 ≤ count a) where
   pub no_room : half + half < most → (b : ℕ) → ¬ Runs a t x b
   no_room h b r = let k = runs_full a t x b n r in absurd (omega (arith, e, f, h, k))
 
@@ -63,26 +64,27 @@ still_tried a t best later x h k = λ b r. let e = k b r in omega arith
 from_line : (end line here : ℤ) → line ≡ pos 0 +ℤ here → end -ℤ line ≡ end -ℤ here
 from_line end line here e = omega (arith, ints, e)
 
-pub candidate_here : (a : Street) (t : TimingRecord) (end line : ℤ) (i phase : ℕ) → line ≡ pos 0 +ℤ far a t i → end ≡ pos (phase + red_ticks a t Outbound i)
+pub candidate_here : (a : Street) (t : TimingRecord) (end line : ℤ) (i phase : ℕ) → line ≡ pos 0 +ℤ far a t i → end ≡ pos (phase + red_ticks a (base t) Outbound i)
     → end -ℤ line ≡ candidate a t i phase
-candidate_here a t end line i phase e f = rw f (from_line (pos (phase + red_ticks a t Outbound i)) line (far a t i) e)
+candidate_here a t end line i phase e f = rw f (from_line (pos (phase + red_ticks a (base t) Outbound i)) line (far a t i) e)
 
 -- signals up to some are signals up to fewer
 pub tried_less : (a : Street) (t : TimingRecord) (best : Option OutboundBand) (n k : ℕ) → n ≤ k → IsTriedTo a t best k → IsTriedTo a t best n
 tried_less a t best n k l h = record { each = λ i p q. h.each i p (omega arith) }
 
 -- half a cycle later signal 1 is in phase
-pub turned_upright : (a : Street) (t : TimingRecord) (x half : ℤ) (p q : ℕ) → 0 < cycle a t → half ≡ pos (cycle a t) → p ≡ phase_wait (cycle a t) (red_ticks a t Outbound 1) x 0
-    → q ≡ phase_wait (cycle a t) (red_ticks a t Outbound 1) x (cycle a t) → q < p
-    → wait_in_phase a t (x +ℤ half) 1 0 ≤ wait_in_phase a t (x +ℤ half) 1 (cycle a t)
+pub turned_upright : (a : Street) (t : TimingRecord) (x half : ℤ) (p q : ℕ) → 0 < cycle a (base t) → half ≡ pos (cycle a (base t))
+    → p ≡ phase_wait (cycle a (base t)) (red_ticks a (base t) Outbound 1) x 0
+    → q ≡ phase_wait (cycle a (base t)) (red_ticks a (base t) Outbound 1) x (cycle a (base t)) → q < p
+    → wait_in_phase a t (x +ℤ half) 1 0 ≤ wait_in_phase a t (x +ℤ half) 1 (cycle a (base t))
 turned_upright a t x half p q c e f g h =
     let m = wait_half_later a t c x 1 in
     let n = wait_in_turn a t c x 1 in
     let k = wait_at_one a t c x 0 in
-    let l = wait_at_one a t c x (cycle a t) in
+    let l = wait_at_one a t c x (cycle a (base t)) in
     rw e (omega (arith, m, n, k, l, f, g))
 
-pub turned_runs : (a : Street) (t : TimingRecord) (x half : ℤ) (b : ℕ) → 0 < cycle a t → half ≡ pos (cycle a t) → Runs a t x b → Runs a t (x +ℤ half) b
+pub turned_runs : (a : Street) (t : TimingRecord) (x half : ℤ) (b : ℕ) → 0 < cycle a (base t) → half ≡ pos (cycle a (base t)) → Runs a t x b → Runs a t (x +ℤ half) b
 turned_runs a t x half b c e h = rw e (runs_turned a t c x b h)
 
 -- before the first signal nothing is to be tried
@@ -91,19 +93,19 @@ none_tried a t best = record { each = λ i p q. absurd (omega arith) }
 
 -- both candidates of the next signal are tried, one after the other
 pub next_tried : (a : Street) (t : TimingRecord) (best found last : Option OutboundBand) (k : ℕ) → IsTriedTo a t best k → reach best ≤ reach found → reach found ≤ reach last
-    → IsTried a t found (candidate a t (k + 1) 0) → IsTried a t last (candidate a t (k + 1) (cycle a t)) → IsTriedTo a t last (k + 1)
+    → IsTried a t found (candidate a t (k + 1) 0) → IsTried a t last (candidate a t (k + 1) (cycle a (base t))) → IsTriedTo a t last (k + 1)
 next_tried a t best found last k h p q f l = record {
   each = λ i r s. elim (cases_lt i (k + 1)) [
     | inl w ↦ let e = h.each i r (omega arith) in record {
       in_phase = still_tried a t best last (candidate a t i 0) (omega arith) e.in_phase;
-      half_later = still_tried a t best last (candidate a t i (cycle a t)) (omega arith) e.half_later;
+      half_later = still_tried a t best last (candidate a t i (cycle a (base t))) (omega arith) e.half_later;
     }
     | inr w ↦ let e : i ≡ k + 1 = omega arith in rw e (record { in_phase = still_tried a t found last (candidate a t (k + 1) 0) q f; half_later = l })
   ];
 }
 
 -- where all candidates are tried, no band is wider
-pub best_is : (a : Street) (t : TimingRecord) (band : OutboundBand) → 1 ≤ count a → 0 < cycle a t → IsTriedTo a t (Some band) (count a) → IsWidest a t band.width
+pub best_is : (a : Street) (t : TimingRecord) (band : OutboundBand) → 1 ≤ count a → 0 < cycle a (base t) → IsTriedTo a t (Some band) (count a) → IsWidest a t band.width
 best_is a t band n c h = λ x b r.
     let there = runs_there a t c n x b r in
     let tried = h.each there.signal there.there.0 there.there.1 in
@@ -113,7 +115,7 @@ best_is a t band n c h = λ x b r.
     ]
 
 -- and where none of them runs, none does
-pub none_is : (a : Street) (t : TimingRecord) → 1 ≤ count a → 0 < cycle a t → IsTriedTo a t None (count a) → (x : ℤ) → ¬ Runs a t x 0
+pub none_is : (a : Street) (t : TimingRecord) → 1 ≤ count a → 0 < cycle a (base t) → IsTriedTo a t None (count a) → (x : ℤ) → ¬ Runs a t x 0
 none_is a t n c h x r =
     let there = runs_there a t c n x 0 r in
     let tried = h.each there.signal there.there.0 there.there.1 in

@@ -3,7 +3,8 @@ use Rattle.std.proofs.Common.{◌≡◌, ℕ, zero, suc, ◌*◌, ◌<◌, ◌�
 use Rattle.std.proofs.lemmas.Bool.{cases_lt}
 use Rattle.std.proofs.lemmas.Bool.Decides.{nat_tests}
 use Rattle.progression.specs.Street.{Street, count, HasSignal, HasLink}
-use Rattle.progression.specs.TimingRecord.{TimingRecord, cycle}
+use Rattle.progression.specs.TimingRecord.{TimingRecord, base}
+use Rattle.progression.specs.BaseRecord.{cycle}
 use Rattle.artery_model.specs.Valid.{IsValid}
 use Rattle.time_space.proofs.FinerGrids.{mul-le}
 use Rattle.mirror_theory.specs.EqualBands.{IsEven}
@@ -41,8 +42,8 @@ pub fits_twice : (a : Street) (t : TimingRecord) → IsValid a → first_too_fin
 fits_twice a t v e =
     let one = neither (first_past (t.grid * 2 ∷ [])) _ e in
     let two = neither (first_past (map (λ n. n * 2) t.run_out)) _ one.1 in
-    let three = neither (first_past (map (λ n. n * 2) t.run_in)) (first_past (cycle a t * 2 ∷ [])) two.1 in
-    let long : cycle a t * 2 < 2 ^ 80 = (head_fits (cycle a t * 2) [] three.1).0 in
+    let three = neither (first_past (map (λ n. n * 2) t.run_in)) (first_past (cycle a (base t) * 2 ∷ [])) two.1 in
+    let long : cycle a (base t) * 2 < 2 ^ 80 = (head_fits (cycle a (base t) * 2) [] three.1).0 in
     let parts : 2 * t.unit ≤ a.head.parts * t.unit = mul-le v.least_parts (le_same t.unit) in
     record {
       grid = (head_fits (t.grid * 2) [] one.0).0;

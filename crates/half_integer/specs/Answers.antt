@@ -1,10 +1,10 @@
--- For which timings there are half-cycle plans, and what each refusal says: a rule of the timing before uneven signals, these
+-- For which timings there are half-cycle plans, and what each refusal says: a rule of the base before uneven signals, these
 -- before unequal links, and these before numbers that are too large.
-use Rattle.std.specs.Prelude.{◌≡◌, ◌≤◌, ℕ, None, Some}
+use Rattle.std.specs.Prelude.{◌≡◌, ℕ, None, Some}
 use Rattle.progression.specs.Street.{Street, HasSignal, HasLink}
-use Rattle.progression.specs.TimingRecord.{TimingRecord}
+use Rattle.progression.specs.TimingRecord.{TimingRecord, base}
 use Rattle.progression.specs.Good.{IsBase}
-use Rattle.time_space.specs.FirstFailing.{IsFirstFailing, rule_order, last_base_rule}
+use Rattle.time_space.specs.FirstFailing.{IsFirstBaseFailing}
 use Rattle.half_integer.specs.TooFine.{first_too_fine}
 use Rattle.half_integer.specs.Uneven.{IsUneven, IsFirstUneven, IsEqualLink, IsFirstUnequal}
 use Rattle.half_integer.specs.declared.end.HalfEnd.{HalfEnd}
@@ -23,10 +23,10 @@ Ends a t (end.Uneven i) = IsFirstUneven a t i
 Ends a t (end.Unequal i) = ((k : ℕ) → HasSignal a k → ¬ IsUneven a t k) × IsFirstUnequal a t i
 Ends a t (end.TooFine n) = ((k : ℕ) → HasSignal a k → ¬ IsUneven a t k) × ((k : ℕ) → HasLink a k → IsEqualLink a t k) × (first_too_fine a t ≡ Some n)
 
--- the first rule up to the changes of pace that fails, or the end of a timing that keeps them all
+-- the first rule of its base that fails, or the end of a timing whose base keeps them all
 abbrev pub Refuses : Street → TimingRecord → HalfFault → Type 0
-Refuses a t (fault.Fails f) = (¬ IsBase a t) × IsFirstFailing a t f × (rule_order f ≤ last_base_rule)
-Refuses a t (fault.End e) = IsBase a t × Ends a t e
+Refuses a t (fault.Fails f) = (¬ IsBase a (base t)) × IsFirstBaseFailing a (base t) f
+Refuses a t (fault.End e) = IsBase a (base t) × Ends a t e
 Refuses a t fault.Memory = Unit {0}
 
 -- one end at most comes, and none where there is a half-cycle plan to look for

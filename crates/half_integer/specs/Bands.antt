@@ -1,9 +1,9 @@
 -- What the search knows of the bands on the lines that it has tried.
 use Rattle.std.specs.Prelude.{ℕ, zero, suc, max, ◌+◌, ◌*◌, ◌<◌, ◌≤◌, ◌^◌, Option, None, Some, ℤ, unsigned_abs}
 use Rattle.progression.specs.Street.{Street}
-use Rattle.progression.specs.TimingRecord.{TimingRecord}
+use Rattle.progression.specs.TimingRecord.{TimingRecord, base}
 use Rattle.mirror_theory.specs.Runs.{Runs, IsWidest, wait_in_phase, taken, candidate}
-use Rattle.progression.specs.TimingRecord.{cycle}
+use Rattle.progression.specs.BaseRecord.{cycle}
 use Rattle.half_integer.specs.declared.search.OutboundBand.{OutboundBand}
 
 -- how much the fullest of the first k signals takes
@@ -33,7 +33,7 @@ IsRun a t (Some band) = Runs a t band.first band.width
 -- both candidates of a signal are tried
 pub record IsTriedAt (a : Street) (t : TimingRecord) (best : Option OutboundBand) (i : ℕ) : Type 0 where
   pub in_phase : IsTried a t best (candidate a t i 0)
-  pub half_later : IsTried a t best (candidate a t i (cycle a t))
+  pub half_later : IsTried a t best (candidate a t i (cycle a (base t)))
 
 -- and those of the first signals
 pub record IsTriedTo (a : Street) (t : TimingRecord) (best : Option OutboundBand) (last : ℕ) : Type 0 where
@@ -49,4 +49,4 @@ pub record IsBestBand (a : Street) (t : TimingRecord) (band : OutboundBand) : Ty
   pub runs : Runs a t band.first band.width
   pub widest : IsWidest a t band.width
   pub near : unsigned_abs band.first ≤ 2 ^ 99
-  pub upright : wait_in_phase a t band.first 1 0 ≤ wait_in_phase a t band.first 1 (cycle a t)
+  pub upright : wait_in_phase a t band.first 1 0 ≤ wait_in_phase a t band.first 1 (cycle a (base t))

@@ -1,27 +1,27 @@
 //! The timing of the best band.
 
 ghost use Rattle.std.specs.Prelude.{◌≡◌, ◌+◌, ◌*◌, ◌<◌, ◌≤◌, ◌^◌, ◌++◌, [], ◌∷◌, pos, All, length, IfOk, OnOk, MatchOption, unsigned_abs, ◌+ℤ◌};
-ghost use Rattle.progression.specs.{Street.{count}, TimingRecord.{cycle}, Green.{ahead, red_ticks}};
+ghost use Rattle.progression.specs.{Street.{count, HasSignal}, BaseRecord.{cycle}, Green.{ahead, red_ticks}, TimingRecord.{base}};
 ghost use Rattle.progression.specs.declared.parts.Dir.TheVariants.{Outbound};
 ghost use Rattle.artery_model.specs.Bounds.{most_signals};
 ghost use Rattle.time_space.specs.Sizes.{IsWithin};
 ghost use Rattle.mirror_theory.specs.{EqualBands.{IsEven, HasNone, IsHalfCycleBest}, Runs.{far}, Built.{phase_at}};
 ghost use Rattle.half_integer.specs.HalfPlan.{red_tick, first_out_tick, first_in_tick, half_plan};
 ghost use Rattle.half_integer.specs.Fitting.{FitsTwice, IsListTo, twice_at};
+ghost use Rattle.time_space.specs.Timing.{IsFor};
 
 use crate::search::{OutboundBand, best_band, line_beyond, next_line, wait_in_phase};
 use artery_model::Artery;
 use narrow_fraction::Memory;
 use progression::Dir;
 use std::alloc::Global;
-use time_space::{Timing, cycle, red_start, red_ticks, since_start};
+use time_space::{Base, Timing, copied, cycle, red_start, red_ticks, since_start};
 
 /// How many ticks the outbound red of a signal begins before the common red.
 fn ahead(artery: &Artery, timing: &Timing, signal: u32) -> i128
-    requires first { 1 ≤ signal }
-    requires last { signal ≤ count artery.now }
-    requires shape { length timing.now.patterns ≡ count artery.now }
-    ensures value { result ≡ pos (ahead artery.now timing.now Outbound signal) }
+    requires signal { HasSignal artery.now signal }
+    requires shape { IsFor artery.now (base timing.now) }
+    ensures value { result ≡ pos (ahead artery.now (base timing.now) Outbound signal) }
     ensures small { unsigned_abs result < 2 ^ 94 }
 {
     timing.common_red(signal) - red_start(artery, timing, Dir::Outbound, signal)
@@ -29,8 +29,7 @@ fn ahead(artery: &Artery, timing: &Timing, signal: u32) -> i128
 
 /// The better phase of a signal for the line that crosses it here: 0, or half a cycle.
 fn phase(artery: &Artery, timing: &Timing, line: i128, signal: u32) -> u128
-    requires first { 1 ≤ signal }
-    requires last { signal ≤ count artery.now }
+    requires signal { HasSignal artery.now signal }
     requires near { IsWithin line }
     ensures value { result ≡ phase_at artery.now timing.now line signal }
     ensures small { result < 2 ^ 92 }
@@ -47,11 +46,10 @@ fn phase(artery: &Artery, timing: &Timing, line: i128, signal: u32) -> u128
 
 /// The tick half of the outbound red after the common red begins, where the outbound red is centred in its better phase.
 fn centred_tick(artery: &Artery, timing: &Timing, line: i128, signal: u32) -> i128
-    requires first { 1 ≤ signal }
-    requires last { signal ≤ count artery.now }
-    requires shape { length timing.now.patterns ≡ count artery.now }
+    requires signal { HasSignal artery.now signal }
+    requires shape { IsFor artery.now (base timing.now) }
     requires near { IsWithin line }
-    ensures value { result ≡ pos (phase_at artery.now timing.now line signal + ahead artery.now timing.now Outbound signal * 2) }
+    ensures value { result ≡ pos (phase_at artery.now timing.now line signal + ahead artery.now (base timing.now) Outbound signal * 2) }
     ensures small { IsWithin result }
 {
     let ahead = ahead(artery, timing, signal);
@@ -60,13 +58,12 @@ fn centred_tick(artery: &Artery, timing: &Timing, line: i128, signal: u32) -> i1
 
 /// Where the common red of a signal begins, so that the red is centred in its better phase.
 fn red_tick(artery: &Artery, timing: &Timing, first: i128, line: i128, signal: u32) -> u128
-    requires first { 1 ≤ signal }
-    requires last { signal ≤ count artery.now }
-    requires shape { length timing.now.patterns ≡ count artery.now }
+    requires signal { HasSignal artery.now signal }
+    requires shape { IsFor artery.now (base timing.now) }
     requires here { line ≡ first +ℤ far artery.now timing.now signal }
     requires near { IsWithin line }
     ensures value { result ≡ red_tick artery.now timing.now first signal }
-    ensures small { result < cycle artery.now timing.now + cycle artery.now timing.now }
+    ensures small { result < cycle artery.now (base timing.now) + cycle artery.now (base timing.now) }
 {
     let half = cycle(artery, timing);
     let red = red_ticks(artery, timing, Dir::Outbound, signal);
@@ -94,10 +91,10 @@ fn push_red(
 ) -> Result<(), Memory>
     requires last { place < count artery.now }
     requires many { place < most_signals }
-    requires shape { length timing.now.patterns ≡ count artery.now }
+    requires shape { IsFor artery.now (base timing.now) }
     requires here { line ≡ first +ℤ far artery.now timing.now (place + 1) }
     requires near { IsWithin line }
-    requires fits { cycle artery.now timing.now * 2 < 2 ^ 80 }
+    requires fits { cycle artery.now (base timing.now) * 2 < 2 ^ 80 }
     requires before { IsListTo (red_tick artery.now timing.now first) 1 place reds.old.items }
     ensures { OnOk result (IsListTo (red_tick artery.now timing.now first) 1 (place + 1) reds.new.items) }
 {
@@ -109,9 +106,9 @@ fn push_red(
 /// Where each signal's common red begins.
 #[tactic(auto, using(crate::proofs::Lists::list_none))]
 fn reds(alloc: Global, artery: &Artery, timing: &Timing, first: i128) -> Result<Vec<u128>, Memory>
-    requires shape { length timing.now.patterns ≡ count artery.now }
+    requires shape { IsFor artery.now (base timing.now) }
     requires near { unsigned_abs first ≤ 2 ^ 99 }
-    requires fits { cycle artery.now timing.now * 2 < 2 ^ 80 }
+    requires fits { cycle artery.now (base timing.now) * 2 < 2 ^ 80 }
     ensures { IfOk result (λ reds. IsListTo (red_tick artery.now timing.now first) 1 (count artery.now) reds.items) }
 {
     let mut reds = Vec::new(alloc);
@@ -125,7 +122,7 @@ fn reds(alloc: Global, artery: &Artery, timing: &Timing, first: i128) -> Result<
 
 /// Where a line crosses the last signal.
 fn last_line(artery: &Artery, timing: &Timing, first: i128) -> i128
-    requires shape { length timing.now.patterns ≡ count artery.now }
+    requires shape { IsFor artery.now (base timing.now) }
     requires near { unsigned_abs first ≤ 2 ^ 99 }
     ensures value { result ≡ first +ℤ far artery.now timing.now (count artery.now) }
     ensures near { unsigned_abs result ≤ 2 ^ 99 + 25 * 2 ^ 94 }
@@ -139,11 +136,11 @@ fn last_line(artery: &Artery, timing: &Timing, first: i128) -> i128
 
 /// Where the mirrored line begins at the last signal.
 fn first_in(artery: &Artery, timing: &Timing, band: OutboundBand) -> u128
-    requires shape { length timing.now.patterns ≡ count artery.now }
+    requires shape { IsFor artery.now (base timing.now) }
     requires near { unsigned_abs band.first ≤ 2 ^ 99 }
     requires width { band.width < 2 ^ 94 }
     ensures value { result ≡ first_in_tick artery.now timing.now band.first band.width }
-    ensures small { result < cycle artery.now timing.now + cycle artery.now timing.now }
+    ensures small { result < cycle artery.now (base timing.now) + cycle artery.now (base timing.now) }
 {
     let half = cycle(artery, timing);
     let end = last_line(artery, timing, band.first) + band.width as i128;
@@ -154,7 +151,7 @@ fn first_in(artery: &Artery, timing: &Timing, band: OutboundBand) -> u128
 fn first_out(artery: &Artery, timing: &Timing, band: OutboundBand) -> u128
     requires near { unsigned_abs band.first ≤ 2 ^ 99 }
     ensures value { result ≡ first_out_tick artery.now timing.now band.first }
-    ensures small { result < cycle artery.now timing.now + cycle artery.now timing.now }
+    ensures small { result < cycle artery.now (base timing.now) + cycle artery.now (base timing.now) }
 {
     let half = cycle(artery, timing);
     since_start(half + half, 0, band.first)
@@ -186,15 +183,6 @@ fn doubled(alloc: Global, numbers: &[u128]) -> Result<Vec<u128>, Memory>
     Ok(twice)
 }
 
-/// The same patterns.
-fn copied(alloc: Global, patterns: &[u32]) -> Result<Vec<u32>, Memory>
-    ensures { IfOk result (λ copy. copy.items ≡ patterns.now) }
-{
-    let mut copy = Vec::new(alloc);
-    copy.extend_from_slice(patterns)?;
-    Ok(copy)
-}
-
 /// The timing of a band, with each red centred in its better phase.
 fn built(
     alloc: Global,
@@ -202,7 +190,7 @@ fn built(
     timing: &Timing,
     band: OutboundBand,
 ) -> Result<Timing, Memory>
-    requires shape { length timing.now.patterns ≡ count artery.now }
+    requires shape { IsFor artery.now (base timing.now) }
     requires fits { FitsTwice artery.now timing.now }
     requires near { unsigned_abs band.first ≤ 2 ^ 99 }
     requires width { band.width < 2 ^ 80 }
@@ -214,26 +202,22 @@ fn built(
     let run_in = doubled(alloc, timing.run_in())?;
     let first_out = first_out(artery, timing, band);
     let first_in = first_in(artery, timing, band);
-    match Timing::new(
+    match Base::new(
         timing.grid() * 2,
         timing.unit() * 2,
         patterns,
         reds,
         run_out,
         run_in,
-        first_out,
-        first_in,
-        band.width,
-        band.width,
     ) {
-        Some(made) => Ok(made),
+        Some(base) => Ok(base.banded(first_out, band.width, first_in, band.width)),
         None => unreachable!(),
     }
 }
 
 /// The timing with the widest equal bands over all offsets on all grids, or None where there are none.
 pub fn half_plan(alloc: Global, artery: &Artery, timing: &Timing) -> Result<Option<Timing>, Memory>
-    requires shape { length timing.now.patterns ≡ count artery.now }
+    requires shape { IsFor artery.now (base timing.now) }
     requires even { IsEven artery.now timing.now }
     requires fits { FitsTwice artery.now timing.now }
     ensures { IfOk result (λ found. MatchOption found (HasNone artery.now timing.now) (λ s. IsHalfCycleBest artery.now timing.now s)) }

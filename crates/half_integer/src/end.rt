@@ -1,8 +1,9 @@
 //! Timings for which there are no half-cycle plans.
 
-ghost use Rattle.std.specs.Prelude.{◌≡◌, MatchOption, length};
-ghost use Rattle.progression.specs.Street.{count};
+ghost use Rattle.std.specs.Prelude.{MatchOption};
 ghost use Rattle.half_integer.specs.Answers.{IsReady, Ends};
+ghost use Rattle.time_space.specs.Timing.{IsFor};
+ghost use Rattle.progression.specs.TimingRecord.{base};
 
 use crate::too_fine::first_too_fine;
 use crate::uneven::{first_unequal, first_uneven};
@@ -22,7 +23,7 @@ pub enum HalfEnd {
 
 /// Why a timing has no half-cycle plan, if so.
 pub fn half_end(artery: &Artery, timing: &Timing) -> Option<HalfEnd>
-    requires shape { length timing.now.patterns ≡ count artery.now }
+    requires shape { IsFor artery.now (base timing.now) }
     ensures { MatchOption result (IsReady artery.now timing.now) (λ end. Ends artery.now timing.now end) }
 {
     if let Some(signal) = first_uneven(artery, timing) {

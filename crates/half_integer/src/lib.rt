@@ -3,7 +3,7 @@
 //! Start with `half`. That reds in phase or half a cycle apart are enough is `mirror_theory`'s; here the best of them is found.
 //!
 //! `half` answers the widest equal bands that a timing has with any offsets, as a timing on the doubled grid (`IsHalfCycleBest`),
-//! or none exactly where it has none on any grid (`HasNone`). It refuses a timing that breaks a rule up to the changes of pace,
+//! or none exactly where it has none on any grid (`HasNone`). It refuses a timing whose base breaks a rule,
 //! with the first; then one with an uneven signal, with the least; then one with a link of unequal travel, with the least; then one
 //! with a number past the limit on the doubled grid, with the first (`specs/Answers.antt`). Uneven is said in left turns and
 //! patterns (`specs/Uneven.antt`), and `law_uneven_is_two_reds` that these are just the signals whose reds aren't one interval. The

@@ -1,10 +1,11 @@
 //! The phases of the reds of a half-cycle plan.
 
-ghost use Rattle.std.specs.Prelude.{◌≡◌, ◌↔◌, ◌<◌, ◌≤◌, ◌^◌, ◌/◌, IsTrue, pos, ◌-ℤ◌, length};
-ghost use Rattle.progression.specs.{Street.{count}, declared.parts.Dir.TheVariants.{Outbound}};
+ghost use Rattle.std.specs.Prelude.{◌≡◌, ◌↔◌, ◌<◌, ◌^◌, ◌/◌, IsTrue, pos, ◌-ℤ◌};
+ghost use Rattle.progression.specs.{Street.{HasSignal}, declared.parts.Dir.TheVariants.{Outbound}, TimingRecord.{base}};
 ghost use Rattle.time_space.specs.Sizes.{IsWithin};
 ghost use Rattle.mirror_theory.specs.EqualBands.{IsCentred};
 ghost use Rattle.half_integer.specs.Phases.{is_later};
+ghost use Rattle.time_space.specs.Timing.{IsFor};
 
 use artery_model::Artery;
 use progression::Dir;
@@ -21,9 +22,8 @@ fn before_zero(red: u128) -> i128
 
 /// Whether the red of a signal isn't centred at 0. In an answer of `half` it is then centred half a cycle later.
 pub fn half_of(artery: &Artery, timing: &Timing, signal: u32) -> bool
-    requires first { 1 ≤ signal }
-    requires last { signal ≤ count artery.now }
-    requires shape { length timing.now.patterns ≡ count artery.now }
+    requires signal { HasSignal artery.now signal }
+    requires shape { IsFor artery.now (base timing.now) }
     ensures test { result ≡ is_later artery.now timing.now signal }
     ensures centred { IsTrue result ↔ ¬ IsCentred artery.now timing.now Outbound signal (pos 0) }
 {

@@ -1,12 +1,13 @@
 //! The widest band over all lines on the doubled grid, each signal in its better phase.
 
-ghost use Rattle.std.specs.Prelude.{◌≡◌, ◌+◌, ◌-◌, ◌*◌, ◌<◌, ◌≤◌, ◌^◌, ℕ, ℤ, pos, min, max, length, MatchOption, unsigned_abs, ◌+ℤ◌};
-ghost use Rattle.progression.specs.{Street.{count}, TimingRecord.{cycle}, Green.{red_ticks}};
+ghost use Rattle.std.specs.Prelude.{◌≡◌, ◌+◌, ◌-◌, ◌*◌, ◌<◌, ◌≤◌, ◌^◌, ℕ, ℤ, pos, min, max, MatchOption, unsigned_abs, ◌+ℤ◌};
+ghost use Rattle.progression.specs.{Street.{count, HasLink, HasSignal}, BaseRecord.{cycle}, Green.{red_ticks}, TimingRecord.{base}};
 ghost use Rattle.progression.specs.declared.parts.Dir.TheVariants.{Outbound};
 ghost use Rattle.artery_model.specs.Bounds.{most_signals};
 ghost use Rattle.time_space.specs.Sizes.{IsWithin};
 ghost use Rattle.mirror_theory.specs.{EqualBands.{travel}, Runs.{phase_wait, far, wait_in_phase, taken, Runs, candidate}};
 ghost use Rattle.half_integer.specs.Bands.{fullest, IsRoom, reach, IsTried, IsTriedTo, IsRun, IsBandWithin, IsBestBand};
+ghost use Rattle.time_space.specs.Timing.{IsFor};
 
 use artery_model::Artery;
 use progression::Dir;
@@ -21,9 +22,8 @@ pub struct OutboundBand {
 
 /// A direction's run on a link, less the clearance at its end.
 pub fn travel(artery: &Artery, timing: &Timing, dir: Dir, link: u32) -> i128
-    requires first { 1 ≤ link }
-    requires last { link < count artery.now }
-    requires shape { length timing.now.patterns ≡ count artery.now }
+    requires link { HasLink artery.now link }
+    requires shape { IsFor artery.now (base timing.now) }
     ensures value { result ≡ travel artery.now timing.now dir link }
     ensures small { unsigned_abs result ≤ 2 ^ 93 }
 {
@@ -38,12 +38,11 @@ pub fn travel(artery: &Artery, timing: &Timing, dir: Dir, link: u32) -> i128
 
 /// The wait of a line at a signal whose red is centred at 0 or half a cycle later.
 pub fn wait_in_phase(artery: &Artery, timing: &Timing, line: i128, signal: u32, phase: u128) -> u128
-    requires first { 1 ≤ signal }
-    requires last { signal ≤ count artery.now }
-    requires phase { phase ≤ cycle artery.now timing.now }
+    requires signal { HasSignal artery.now signal }
+    requires phase { phase ≤ cycle artery.now (base timing.now) }
     requires near { IsWithin line }
-    ensures value { result ≡ phase_wait (cycle artery.now timing.now) (red_ticks artery.now timing.now Outbound signal) line phase }
-    ensures below { result < cycle artery.now timing.now + cycle artery.now timing.now }
+    ensures value { result ≡ phase_wait (cycle artery.now (base timing.now)) (red_ticks artery.now (base timing.now) Outbound signal) line phase }
+    ensures below { result < cycle artery.now (base timing.now) + cycle artery.now (base timing.now) }
 {
     let half = cycle(artery, timing);
     let end = phase + red_ticks(artery, timing, Dir::Outbound, signal);
@@ -52,8 +51,7 @@ pub fn wait_in_phase(artery: &Artery, timing: &Timing, line: i128, signal: u32, 
 
 /// What a line and the signal's red take of the cycle in the better phase.
 fn taken(artery: &Artery, timing: &Timing, first: i128, line: i128, signal: u32) -> u128
-    requires first { 1 ≤ signal }
-    requires last { signal ≤ count artery.now }
+    requires signal { HasSignal artery.now signal }
     requires here { line ≡ first +ℤ far artery.now timing.now signal }
     requires near { IsWithin line }
     ensures value { result ≡ taken artery.now timing.now first signal }
@@ -67,9 +65,8 @@ fn taken(artery: &Artery, timing: &Timing, first: i128, line: i128, signal: u32)
 
 /// Twice the outbound travel on a link.
 fn step(artery: &Artery, timing: &Timing, link: u32) -> i128
-    requires first { 1 ≤ link }
-    requires last { link < count artery.now }
-    requires shape { length timing.now.patterns ≡ count artery.now }
+    requires link { HasLink artery.now link }
+    requires shape { IsFor artery.now (base timing.now) }
     ensures value { result ≡ travel artery.now timing.now Outbound link +ℤ travel artery.now timing.now Outbound link }
     ensures small { unsigned_abs result ≤ 2 ^ 94 }
 {
@@ -79,9 +76,8 @@ fn step(artery: &Artery, timing: &Timing, link: u32) -> i128
 
 /// Where a line crosses the next signal.
 pub fn next_line(artery: &Artery, timing: &Timing, first: i128, line: i128, signal: u32) -> i128
-    requires first { 1 ≤ signal }
-    requires last { signal < count artery.now }
-    requires shape { length timing.now.patterns ≡ count artery.now }
+    requires signal { HasLink artery.now signal }
+    requires shape { IsFor artery.now (base timing.now) }
     requires here { line ≡ first +ℤ far artery.now timing.now signal }
     requires start { unsigned_abs first ≤ 2 ^ 99 }
     requires near { unsigned_abs line ≤ unsigned_abs first + signal * 2 ^ 94 }
@@ -94,9 +90,8 @@ pub fn next_line(artery: &Artery, timing: &Timing, first: i128, line: i128, sign
 
 /// Where a line crosses the next signal, where there is one.
 pub fn line_beyond(artery: &Artery, timing: &Timing, first: i128, line: i128, signal: u32) -> i128
-    requires first { 1 ≤ signal }
-    requires last { signal ≤ count artery.now }
-    requires shape { length timing.now.patterns ≡ count artery.now }
+    requires signal { HasSignal artery.now signal }
+    requires shape { IsFor artery.now (base timing.now) }
     requires here { line ≡ first +ℤ far artery.now timing.now signal }
     requires start { unsigned_abs first ≤ 2 ^ 99 }
     requires near { unsigned_abs line ≤ unsigned_abs first + signal * 2 ^ 94 }
@@ -112,7 +107,7 @@ pub fn line_beyond(artery: &Artery, timing: &Timing, first: i128, line: i128, si
 
 /// What the fullest signal takes.
 fn fullest(artery: &Artery, timing: &Timing, first: i128) -> u128
-    requires shape { length timing.now.patterns ≡ count artery.now }
+    requires shape { IsFor artery.now (base timing.now) }
     requires near { unsigned_abs first ≤ 2 ^ 99 }
     ensures value { result ≡ fullest artery.now timing.now first (count artery.now) }
     ensures some { 1 ≤ count artery.now }
@@ -129,7 +124,7 @@ fn fullest(artery: &Artery, timing: &Timing, first: i128) -> u128
 
 /// The widest band that begins on a line.
 fn room(artery: &Artery, timing: &Timing, first: i128) -> Option<u128>
-    requires shape { length timing.now.patterns ≡ count artery.now }
+    requires shape { IsFor artery.now (base timing.now) }
     requires near { unsigned_abs first ≤ 2 ^ 99 }
     ensures { MatchOption result ((band : ℕ) → ¬ Runs artery.now timing.now first band) (λ b. IsRoom artery.now timing.now first b) }
 {
@@ -149,7 +144,7 @@ fn better(
     best: Option<OutboundBand>,
     first: i128,
 ) -> Option<OutboundBand>
-    requires shape { length timing.now.patterns ≡ count artery.now }
+    requires shape { IsFor artery.now (base timing.now) }
     requires near { unsigned_abs first ≤ 26 * 2 ^ 94 }
     requires runs { IsRun artery.now timing.now best }
     requires within { IsBandWithin best }
@@ -170,10 +165,9 @@ fn better(
 
 /// Where the red of a signal ends in a phase.
 fn red_end(artery: &Artery, timing: &Timing, signal: u32, phase: u128) -> i128
-    requires first { 1 ≤ signal }
-    requires last { signal ≤ count artery.now }
+    requires signal { HasSignal artery.now signal }
     requires phase { phase < 2 ^ 92 }
-    ensures value { result ≡ pos (phase + red_ticks artery.now timing.now Outbound signal) }
+    ensures value { result ≡ pos (phase + red_ticks artery.now (base timing.now) Outbound signal) }
     ensures small { unsigned_abs result ≤ 2 ^ 94 }
 {
     let end = phase + red_ticks(artery, timing, Dir::Outbound, signal);
@@ -182,8 +176,7 @@ fn red_end(artery: &Artery, timing: &Timing, signal: u32, phase: u128) -> i128
 
 /// The line that crosses a signal at the end of its red in a phase.
 fn candidate(artery: &Artery, timing: &Timing, line: i128, signal: u32, phase: u128) -> i128
-    requires first { 1 ≤ signal }
-    requires last { signal ≤ count artery.now }
+    requires signal { HasSignal artery.now signal }
     requires many { signal ≤ most_signals }
     requires here { line ≡ pos 0 +ℤ far artery.now timing.now signal }
     requires near { unsigned_abs line ≤ signal * 2 ^ 94 }
@@ -204,7 +197,7 @@ fn tried_next(
 ) -> Option<OutboundBand>
     requires last { place < count artery.now }
     requires many { place < most_signals }
-    requires shape { length timing.now.patterns ≡ count artery.now }
+    requires shape { IsFor artery.now (base timing.now) }
     requires here { line ≡ pos 0 +ℤ far artery.now timing.now (place + 1) }
     requires near { unsigned_abs line ≤ (place + 1) * 2 ^ 94 }
     requires runs { IsRun artery.now timing.now best }
@@ -223,7 +216,7 @@ fn tried_next(
 /// The best band on all candidates.
 #[tactic(auto, using(crate::proofs::Rooms::none_tried))]
 fn best_candidate(artery: &Artery, timing: &Timing) -> Option<OutboundBand>
-    requires shape { length timing.now.patterns ≡ count artery.now }
+    requires shape { IsFor artery.now (base timing.now) }
     ensures runs { IsRun artery.now timing.now result }
     ensures within { IsBandWithin result }
     ensures tried { IsTriedTo artery.now timing.now result (count artery.now) }
@@ -240,9 +233,9 @@ fn best_candidate(artery: &Artery, timing: &Timing) -> Option<OutboundBand>
 
 /// Half a cycle of the doubled grid.
 fn half_cycle(artery: &Artery, timing: &Timing) -> i128
-    ensures value { result ≡ pos (cycle artery.now timing.now) }
+    ensures value { result ≡ pos (cycle artery.now (base timing.now)) }
     ensures small { unsigned_abs result < 2 ^ 92 }
-    ensures whole { 0 < cycle artery.now timing.now }
+    ensures whole { 0 < cycle artery.now (base timing.now) }
 {
     cycle(artery, timing) as i128
 }
@@ -255,7 +248,7 @@ fn upright(artery: &Artery, timing: &Timing, band: OutboundBand) -> OutboundBand
     ensures runs { Runs artery.now timing.now result.first result.width }
     ensures same { result.width ≡ band.width }
     ensures near { unsigned_abs result.first ≤ 2 ^ 99 }
-    ensures upright { wait_in_phase artery.now timing.now result.first 1 0 ≤ wait_in_phase artery.now timing.now result.first 1 (cycle artery.now timing.now) }
+    ensures upright { wait_in_phase artery.now timing.now result.first 1 0 ≤ wait_in_phase artery.now timing.now result.first 1 (cycle artery.now (base timing.now)) }
 {
     let half = cycle(artery, timing);
     let in_phase = wait_in_phase(artery, timing, band.first, 1, 0);
@@ -272,7 +265,7 @@ fn upright(artery: &Artery, timing: &Timing, band: OutboundBand) -> OutboundBand
 
 /// The band that is widest of all, or None where none runs.
 pub fn best_band(artery: &Artery, timing: &Timing) -> Option<OutboundBand>
-    requires shape { length timing.now.patterns ≡ count artery.now }
+    requires shape { IsFor artery.now (base timing.now) }
     ensures { MatchOption result ((x : ℤ) → ¬ Runs artery.now timing.now x 0) (λ band. IsBestBand artery.now timing.now band) }
 {
     let half = cycle(artery, timing);

@@ -1,8 +1,10 @@
 //! Signals whose reds aren't one interval, and links whose directions take unequal times.
 
-ghost use Rattle.std.specs.Prelude.{◌≡◌, ◌↔◌, ◌<◌, ◌≤◌, ℕ, IsTrue, MatchOption, length};
+ghost use Rattle.std.specs.Prelude.{◌↔◌, ℕ, IsTrue, MatchOption};
 ghost use Rattle.progression.specs.Street.{count, HasSignal, HasLink};
 ghost use Rattle.half_integer.specs.Uneven.{IsSplit, IsUneven, IsFirstUneven, IsEqualLink, IsFirstUnequal};
+ghost use Rattle.time_space.specs.Timing.{IsFor};
+ghost use Rattle.progression.specs.TimingRecord.{base};
 
 use crate::search::travel;
 use artery_model::Artery;
@@ -18,9 +20,8 @@ fn is_split(pattern: u32) -> bool
 
 /// Whether the two reds of a signal aren't one interval.
 fn is_uneven(artery: &Artery, timing: &Timing, signal: u32) -> bool
-    requires first { 1 ≤ signal }
-    requires last { signal ≤ count artery.now }
-    requires shape { length timing.now.patterns ≡ count artery.now }
+    requires signal { HasSignal artery.now signal }
+    requires shape { IsFor artery.now (base timing.now) }
     ensures { IsTrue result ↔ IsUneven artery.now timing.now signal }
 {
     let left = artery.left_against(Dir::Outbound, signal);
@@ -30,7 +31,7 @@ fn is_uneven(artery: &Artery, timing: &Timing, signal: u32) -> bool
 
 /// The first signal whose two reds aren't one interval.
 pub fn first_uneven(artery: &Artery, timing: &Timing) -> Option<u32>
-    requires shape { length timing.now.patterns ≡ count artery.now }
+    requires shape { IsFor artery.now (base timing.now) }
     ensures { MatchOption result ((i : ℕ) → HasSignal artery.now i → ¬ IsUneven artery.now timing.now i)
         (λ i. IsFirstUneven artery.now timing.now i) }
 {
@@ -44,9 +45,8 @@ pub fn first_uneven(artery: &Artery, timing: &Timing) -> Option<u32>
 
 /// Whether both directions take as long on a link.
 fn is_equal_link(artery: &Artery, timing: &Timing, link: u32) -> bool
-    requires first { 1 ≤ link }
-    requires last { link < count artery.now }
-    requires shape { length timing.now.patterns ≡ count artery.now }
+    requires link { HasLink artery.now link }
+    requires shape { IsFor artery.now (base timing.now) }
     ensures { IsTrue result ↔ IsEqualLink artery.now timing.now link }
 {
     travel(artery, timing, Dir::Outbound, link) == travel(artery, timing, Dir::Inbound, link)
@@ -54,7 +54,7 @@ fn is_equal_link(artery: &Artery, timing: &Timing, link: u32) -> bool
 
 /// The first link whose directions take unequal times.
 pub fn first_unequal(artery: &Artery, timing: &Timing) -> Option<u32>
-    requires shape { length timing.now.patterns ≡ count artery.now }
+    requires shape { IsFor artery.now (base timing.now) }
     ensures { MatchOption result ((i : ℕ) → HasLink artery.now i → IsEqualLink artery.now timing.now i)
         (λ i. IsFirstUnequal artery.now timing.now i) }
 {

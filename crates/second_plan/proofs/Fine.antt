@@ -6,11 +6,10 @@ use Rattle.std.proofs.lemmas.List.{length-map}
 use Rattle.std.proofs.Math.Nat.{mul-le-mul_right}
 use Rattle.std.proofs.lemmas.Bool.Decides.{nat_tests}
 use Rattle.progression.specs.Street.{Street, count}
-use Rattle.progression.specs.TimingRecord.{TimingRecord, IsTimingRecord}
+use Rattle.progression.specs.BaseRecord.{BaseRecord, IsBaseRecord}
 use Rattle.artery_model.specs.Valid.{IsValid}
-use Rattle.time_space.specs.Timing.{IsTiming, plan_of}
+use Rattle.time_space.specs.Timing.{AreOfBase, base_of}
 use Rattle.time_space.proofs.FinerGrids.{mul-le}
-use Rattle.band_measure.specs.Pairs.{with_pairs}
 use Rattle.std.proofs.lemmas.List.Folds.{find-append}
 use Rattle.second_plan.specs.Grid.{fineness, in_seconds, too_fine}
 
@@ -48,13 +47,13 @@ none_large : (xs : List ℕ) → find (λ n. nat_le (2 ^ 80) n) xs ≡ None → 
 none_large xs h = λ i d l. small (get_or xs i d) (none_found (λ n. nat_le (2 ^ 80) n) xs h i d l)
 
 -- the numbers of a plan that is not too fine
-pub record IsFine (a : Street) (t : TimingRecord) (k : ℕ) : Type 0 where
+pub record IsFine (a : Street) (t : BaseRecord) (k : ℕ) : Type 0 where
   pub grid : t.grid * fineness a < 2 ^ 80
   pub run_out : All (λ n. n < 2 ^ 80) (map (λ n. n * fineness a) t.run_out)
   pub run_in : All (λ n. n < 2 ^ 80) (map (λ n. n * fineness a) t.run_in)
   pub cycle : a.head.parts * (2 * k * t.grid) < 2 ^ 80
 
-pub is_fine : (a : Street) (t : TimingRecord) (k : ℕ) → too_fine a t k ≡ None → IsFine a t k
+pub is_fine : (a : Street) (t : BaseRecord) (k : ℕ) → too_fine a t k ≡ None → IsFine a t k
 is_fine a t k h =
     let p : ℕ → Bool = λ n. nat_le (2 ^ 80) n in
     let grid = t.grid * fineness a ∷ [] in
@@ -72,7 +71,7 @@ is_fine a t k h =
       cycle = none_large whole last.1 0 0 (omega arith);
     }
 
--- ---- the numbers of the plan's timing
+-- ---- the numbers of the plan's base
 red_small : (k n g c : ℕ) → n < k → k * g ≡ c → c < 2 ^ 80 → n * g < 2 ^ 80
 red_small k n g c l e h = let m : n * g ≤ k * g = mul-le-mul_right g (omega arith) in omega (arith, m)
 
@@ -90,8 +89,8 @@ pub map-map_pos : (xs : List ℕ) (g : ℕ) → map pos (map (λ offset. offset 
 map-map_pos [] g = refl
 map-map_pos (x ∷ xs) g = ap (λ zs. pos (x * g) ∷ zs) (map-map_pos xs g)
 
-module _ (a : Street) (t : TimingRecord) (k : ℕ) (offsets : List ℕ) where
-  -- what the parts of the timing have to be
+module _ (a : Street) (t : BaseRecord) (k : ℕ) (offsets : List ℕ) where
+  -- what the parts of the base have to be
   pub record AreParts (grid unit : ℕ) (patterns reds run_out run_in : List ℕ) : Type 0 where
     pub grid_is : grid ≡ t.grid * fineness a
     pub unit_is : unit ≡ 2 * k * t.grid
@@ -105,61 +104,51 @@ module _ (a : Street) (t : TimingRecord) (k : ℕ) (offsets : List ℕ) where
       → AreParts grid unit patterns reds run_out run_in
   parts_of d e f g h i = record { grid_is = d; unit_is = e; patterns_are = f; reds_are = g; run_out_are = h; run_in_are = i }
 
-  module _ (f b g c : ℕ) where
-    pub plan_is : (grid unit : ℕ) (patterns reds run_out run_in : List ℕ) → AreParts grid unit patterns reds run_out run_in
-        → plan_of grid unit patterns reds run_out run_in f g b c ≡ with_pairs (pos f) b (pos g) c (in_seconds a t k offsets)
-    plan_is grid unit patterns reds run_out run_in h = λ i. record {
-      grid = h.grid_is i;
-      unit = h.unit_is i;
-      patterns = h.patterns_are i;
-      reds = (ap (map pos) h.reds_are ∙ map-map_pos offsets (t.grid * fineness a)) i;
-      run_out = h.run_out_are i;
-      run_in = h.run_in_are i;
-      first_out = pos f;
-      first_in = pos g;
-      band_out = b;
-      band_in = c;
+  pub base_is : (grid unit : ℕ) (patterns reds run_out run_in : List ℕ) → AreParts grid unit patterns reds run_out run_in
+      → base_of grid unit patterns reds run_out run_in ≡ in_seconds a t k offsets
+  base_is grid unit patterns reds run_out run_in h = λ i. record {
+    grid = h.grid_is i;
+    unit = h.unit_is i;
+    patterns = h.patterns_are i;
+    reds = (ap (map pos) h.reds_are ∙ map-map_pos offsets (t.grid * fineness a)) i;
+    run_out = h.run_out_are i;
+    run_in = h.run_in_are i;
+  }
+
+  module _ (valid : IsValid a) (p : IsBaseRecord t) (fine : too_fine a t k ≡ None) (some : 1 ≤ k) (shape : length t.patterns ≡ count a)
+      (each : All (λ n. (1 ≤ n) × (n ≤ 4)) t.patterns) (long : length offsets ≡ count a) (below : All (λ n. n < k) offsets) where
+    sizes_are : IsFine a t k
+    sizes_are = is_fine a t k fine
+
+    grid_above : 1 ≤ t.grid * fineness a
+    grid_above = let m : 1 * 1 ≤ t.grid * (2 * a.head.parts) = mul-le {a = 1} {b = t.grid} {c = 1} {d = 2 * a.head.parts} p.grid (let l = valid.least_parts in omega arith) in omega (arith, m)
+
+    unit_above : 2 ≤ 2 * k * t.grid
+    unit_above = let m : 1 * 1 ≤ k * t.grid = mul-le {a = 1} {b = k} {c = 1} {d = t.grid} some p.grid in omega (arith, m)
+
+    unit_below : 2 * k * t.grid < 2 ^ 80
+    unit_below = let m : 1 * (2 * k * t.grid) ≤ a.head.parts * (2 * k * t.grid) = mul-le-mul_right (2 * k * t.grid) (let l = valid.least_parts in omega arith) in
+        let h = sizes_are.cycle in omega (arith, m, h)
+
+    listed : AreOfBase (t.grid * fineness a) (2 * k * t.grid) t.patterns (map (λ offset. offset * (t.grid * fineness a)) offsets) (map (λ n. n * fineness a) t.run_out)
+        (map (λ n. n * fineness a) t.run_in)
+    listed = record {
+      grid_least = grid_above;
+      grid_most = sizes_are.grid;
+      unit_least = unit_above;
+      unit_most = unit_below;
+      few = let l = valid.few in omega arith;
+      many = let l = valid.many in omega arith;
+      reds_count = length-map offsets (λ offset. offset * (t.grid * fineness a)) ∙ long ∙ sym shape;
+      run_out_count = ap (λ n. n + 1) (length-map t.run_out (λ n. n * fineness a)) ∙ p.run_out;
+      run_in_count = ap (λ n. n + 1) (length-map t.run_in (λ n. n * fineness a)) ∙ p.run_in;
+      patterns_each = each;
+      reds_each = reds_small offsets k (t.grid * fineness a) (a.head.parts * (2 * k * t.grid)) below (omega arith) sizes_are.cycle;
+      run_out_each = sizes_are.run_out;
+      run_in_each = sizes_are.run_in;
     }
 
-    module _ (valid : IsValid a) (p : IsTimingRecord t) (fine : too_fine a t k ≡ None) (some : 1 ≤ k) (shape : length t.patterns ≡ count a)
-        (each : All (λ n. (1 ≤ n) × (n ≤ 4)) t.patterns) (long : length offsets ≡ count a) (below : All (λ n. n < k) offsets) (fs : f < 2 ^ 80)
-        (bs : b < 2 ^ 80) (gs : g < 2 ^ 80) (cs : c < 2 ^ 80) where
-      sizes_are : IsFine a t k
-      sizes_are = is_fine a t k fine
-
-      grid_above : 1 ≤ t.grid * fineness a
-      grid_above = let m : 1 * 1 ≤ t.grid * (2 * a.head.parts) = mul-le {a = 1} {b = t.grid} {c = 1} {d = 2 * a.head.parts} p.grid (let l = valid.least_parts in omega arith) in omega (arith, m)
-
-      unit_above : 2 ≤ 2 * k * t.grid
-      unit_above = let m : 1 * 1 ≤ k * t.grid = mul-le {a = 1} {b = k} {c = 1} {d = t.grid} some p.grid in omega (arith, m)
-
-      unit_below : 2 * k * t.grid < 2 ^ 80
-      unit_below = let m : 1 * (2 * k * t.grid) ≤ a.head.parts * (2 * k * t.grid) = mul-le-mul_right (2 * k * t.grid) (let l = valid.least_parts in omega arith) in
-          let h = sizes_are.cycle in omega (arith, m, h)
-
-      listed : IsTiming (t.grid * fineness a) (2 * k * t.grid) t.patterns (map (λ offset. offset * (t.grid * fineness a)) offsets) (map (λ n. n * fineness a) t.run_out)
-          (map (λ n. n * fineness a) t.run_in) f g b c
-      listed = record {
-        grid_least = grid_above;
-        grid_most = sizes_are.grid;
-        unit_least = unit_above;
-        unit_most = unit_below;
-        few = let l = valid.few in omega arith;
-        many = let l = valid.many in omega arith;
-        reds_count = length-map offsets (λ offset. offset * (t.grid * fineness a)) ∙ long ∙ sym shape;
-        run_out_count = ap (λ n. n + 1) (length-map t.run_out (λ n. n * fineness a)) ∙ p.run_out;
-        run_in_count = ap (λ n. n + 1) (length-map t.run_in (λ n. n * fineness a)) ∙ p.run_in;
-        patterns_each = each;
-        reds_each = reds_small offsets k (t.grid * fineness a) (a.head.parts * (2 * k * t.grid)) below (omega arith) sizes_are.cycle;
-        run_out_each = sizes_are.run_out;
-        run_in_each = sizes_are.run_in;
-        first_out_most = fs;
-        first_in_most = gs;
-        band_out_most = bs;
-        band_in_most = cs;
-      }
-
-      pub is_timing : (grid unit : ℕ) (patterns reds run_out run_in : List ℕ) → AreParts grid unit patterns reds run_out run_in → IsTiming grid unit patterns reds run_out run_in f g b c
-      is_timing grid unit patterns reds run_out run_in h =
-          let e1 = h.grid_is in let e2 = h.unit_is in let e3 = h.patterns_are in let e4 = h.reds_are in let e5 = h.run_out_are in let e6 = h.run_in_are in
-          rw (e1, e2, e3, e4, e5, e6) listed
+    pub of_base : (grid unit : ℕ) (patterns reds run_out run_in : List ℕ) → AreParts grid unit patterns reds run_out run_in → AreOfBase grid unit patterns reds run_out run_in
+    of_base grid unit patterns reds run_out run_in h =
+        let e1 = h.grid_is in let e2 = h.unit_is in let e3 = h.patterns_are in let e4 = h.reds_are in let e5 = h.run_out_are in let e6 = h.run_in_are in
+        rw (e1, e2, e3, e4, e5, e6) listed

@@ -1,13 +1,14 @@
--- A timing's plan is determined, and so is the end that comes where there is none.
+-- A base's plan is determined, and so is the end that comes where there is none.
 use Rattle.std.proofs.Common.{◌≡◌, ℕ, zero, suc, pos, ◌*ℤ◌, unsigned_abs, ◌-◌, ◌*◌, ◌%◌, ◌≤◌, List, get_or, Some, refl, sym, ◌∙◌, ap, subst, arith}
 use Rattle.std.proofs.lemmas.Int.{ints}
 use Rattle.std.proofs.lemmas.List.{ext_get_or}
 use Rattle.rational_theory.specs.Rational.{ℚ, ◌-ℚ◌}
 use Rattle.rational_theory.proofs.Arithmetic.{own_ratio, whole_ratio, ≤ℚ_out}
 use Rattle.progression.specs.Street.{Street, HasSignal}
-use Rattle.progression.specs.TimingRecord.{TimingRecord}
+use Rattle.progression.specs.BaseRecord.{BaseRecord}
+use Rattle.progression.specs.TimingRecord.{TimingRecord, banded}
 use Rattle.progression.specs.Best.{weighted_band}
-use Rattle.progression.specs.Good.{Good}
+use Rattle.progression.specs.Good.{IsBase, Good}
 use Rattle.progression.specs.declared.parts.Dir.{Dir}
 use Rattle.progression.specs.declared.parts.Dir.TheVariants.{Outbound, Inbound}
 use Rattle.artery_model.specs.Valid.{IsValid}
@@ -15,7 +16,6 @@ use Rattle.time_space.specs.FirstFailing.{IsFirstFailing}
 use Rattle.time_space.specs.declared.failing.Failing.{Failing}
 use Rattle.time_space.proofs.OnlyFirst.{one_first}
 use Rattle.time_space.proofs.RulesOut.{rules_out}
-use Rattle.band_measure.specs.Pairs.{with_pairs}
 use Rattle.band_measure.specs.Widest.{IsWidest, NoneRuns}
 use Rattle.band_measure.proofs.AllGrids.{finer_pairs, one_widest}
 use Rattle.narrow_fraction.specs.Past128.{Fits128}
@@ -44,10 +44,10 @@ one_nearest P n d k j p q =
     let m = q.lesser k p.allowed (sym same) in
     omega (arith, l, m)
 
-one_offset : (a : Street) (t : TimingRecord) (k i o u : ℕ) → IsOffset a t k i o → IsOffset a t k i u → o ≡ u
+one_offset : (a : Street) (t : BaseRecord) (k i o u : ℕ) → IsOffset a t k i o → IsOffset a t k i u → o ≡ u
 one_offset a t k i o u p q = p.within ∙ ap (λ r. r % k) (one_nearest _ _ _ _ _ p.near q.near) ∙ sym q.within
 
-offsets_once : (a : Street) (t : TimingRecord) (k : ℕ) (os us : List ℕ) → AreOffsets a t k os → AreOffsets a t k us → os ≡ us
+offsets_once : (a : Street) (t : BaseRecord) (k : ℕ) (os us : List ℕ) → AreOffsets a t k os → AreOffsets a t k us → os ≡ us
 offsets_once a t k os us p q =
     let long = p.each_has in
     ext_get_or 0 os us (p.each_has ∙ sym q.each_has) (λ i l.
@@ -57,7 +57,7 @@ offsets_once a t k os us p q =
     (subst (λ j. IsOffset a t k (suc i) (get_or os j 0)) here (p.each (suc i) has))
     (subst (λ j. IsOffset a t k (suc i) (get_or us j 0)) here (q.each (suc i) has)))
 
-module _ (a : Street) (t : TimingRecord) (valid : IsValid a) (good : Good a t) where
+module _ (a : Street) (t : BaseRecord) (valid : IsValid a) (keeps : IsBase a t) where
   seconds_once : (k j : ℕ) → IsSeconds a t k → IsSeconds a t j → k ≡ j
   seconds_once k j p q = one_nearest _ _ _ k j p q
 
@@ -77,7 +77,7 @@ module _ (a : Street) (t : TimingRecord) (valid : IsValid a) (good : Good a t) w
 
   module _ (k : ℕ) (os : List ℕ) (w : AreWhole a t k os) where
     frame_unit : 2 ≤ 2 * k * t.grid
-    frame_unit = unit_least a t valid good.base k os w.seconds.allowed (some_second k w.seconds) w.rounded.each_has
+    frame_unit = unit_least a t valid keeps k os w.seconds.allowed (some_second k w.seconds) w.rounded.each_has
 
     -- where a direction has a widest pair some line runs
     runs_some : (d : Dir) (first band : ℕ) → IsWidest a (in_seconds a t k os) d first band → ¬ NoneRuns a (in_seconds a t k os) d
@@ -91,9 +91,9 @@ module _ (a : Street) (t : TimingRecord) (valid : IsValid a) (good : Good a t) w
         λ i. record { outbound = out.1 i; inbound = back.1 i } in
         let bands : h.bands ≡ g.bands = one_cut_of a (unsigned_abs a.head.ratio.num) (natural a.head.ratio.num (let r = valid.ratio.least in omega (arith, ints, r)))
         (record { outbound = g.there.band; inbound = g.back.band }) h.bands g.bands (subst (λ (b : Bands). IsCut a b h.bands) wide h.cut) g.cut in
-        let same : with_pairs (pos h.there.first) h.bands.outbound (pos h.back.first) h.bands.inbound (in_seconds a t k os) ≡ with_pairs (pos g.there.first)
+        let same : banded (pos h.there.first) h.bands.outbound (pos h.back.first) h.bands.inbound (in_seconds a t k os) ≡ banded (pos g.there.first)
         g.bands.outbound (pos g.back.first) g.bands.inbound (in_seconds a t k os) =
-        λ i. with_pairs (pos (out.0 i)) ((bands i).outbound) (pos (back.0 i)) ((bands i).inbound) (in_seconds a t k os) in
+        λ i. banded (pos (out.0 i)) ((bands i).outbound) (pos (back.0 i)) ((bands i).inbound) (in_seconds a t k os) in
         h.timing ∙ same ∙ sym g.timing
 
   planned_once : (k j : ℕ) (os us : List ℕ) (p q : TimingRecord) → IsPlanned a t k os p → IsPlanned a t j us q → p ≡ q
@@ -212,10 +212,10 @@ module _ (a : Street) (t : TimingRecord) (valid : IsValid a) (good : Good a t) w
       (w.0, w.1, same, h.loss ∙ ap (λ r. claim -ℚ weighted_band a r) same ∙ sym g.loss)
 
 pub one_end : OneEnd
-one_end a claim t e f valid good p q = one_end_of a t valid good claim e f p q
+one_end a claim t e f valid keeps p q = one_end_of a t valid keeps claim e f p q
 
 pub plan_or_end : PlanOrEnd
-plan_or_end a claim t p e valid good h g = no_end a t valid good claim p e h g
+plan_or_end a claim t p e valid keeps h g = no_end a t valid keeps claim p e h g
 
 pub one_plan : OnePlan
-one_plan a claim t p q valid good h g = one_plan_of a t valid good claim p q h g
+one_plan a claim t p q valid keeps h g = one_plan_of a t valid keeps claim p q h g

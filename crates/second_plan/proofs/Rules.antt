@@ -1,29 +1,27 @@
--- The plan keeps the rules that speak of no band, and of the others only a least band may fail.
-use Rattle.std.proofs.Common.{◌≡◌, ℕ, zero, suc, ℤ, pos, unsigned_abs, ◌+ℤ◌, ◌≤ℤ◌, ◌*◌, ◌≤◌, List, length, refl, sym, ◌∙◌, ap, subst, arith}
+-- The plan keeps the rules of a base, and of those of bands only a least band may fail.
+use Rattle.std.proofs.Common.{◌≡◌, ℕ, ℤ, pos, unsigned_abs, ◌≤ℤ◌, ◌*◌, ◌≤◌, List, length, refl, sym, ◌∙◌, ap, subst, arith}
 use Rattle.std.proofs.lemmas.List.{length-map}
 use Rattle.std.proofs.lemmas.Int.{ints}
 use Rattle.std.proofs.Math.Nat.{mul-le-mul_right}
-use Rattle.std.specs.Prelude.{IsTrue, IfSome}
+use Rattle.std.specs.Prelude.{IfSome}
 use Rattle.rational_theory.specs.Rational.{whole, ◌*ℚ◌, ◌≤ℚ◌}
 use Rattle.rational_theory.proofs.Order.{≤ℚ-*ℚ, whole-*ℤ, whole-≤ℤ}
 use Rattle.progression.specs.Street.{Street, count}
 use Rattle.progression.specs.Speeds.{number, run_low, run_high, change}
-use Rattle.progression.specs.TimingRecord.{TimingRecord, cycle, run}
-use Rattle.progression.specs.Green.{is_green, red_start, red_ticks}
-use Rattle.progression.specs.Lines.{stop, advance, crossing, IsGreenWay}
+use Rattle.progression.specs.TimingRecord.{TimingRecord, base, banded}
+use Rattle.progression.specs.BaseRecord.{BaseRecord, cycle, run}
+use Rattle.progression.specs.Lines.{IsGreenWay, RunsOn}
 use Rattle.progression.specs.Good.{IsBase, RatioHolds, HasEqualBands, pace_change}
 use Rattle.progression.specs.declared.parts.Pair.{Pair}
 use Rattle.progression.specs.declared.parts.Dir.{Dir}
 use Rattle.progression.specs.declared.parts.Dir.TheVariants.{Outbound, Inbound}
 use Rattle.artery_model.specs.Valid.{IsValid}
-use Rattle.time_space.specs.Finer.{finer}
+use Rattle.time_space.specs.Finer.{finer_base}
 use Rattle.time_space.specs.FirstFailing.{IsFirstFailing}
 use Rattle.time_space.specs.declared.failing.Failing.{Failing}
 use Rattle.time_space.specs.declared.failing.Failing.TheVariants as failing
 use Rattle.time_space.proofs.FinerGrids.{base_both}
-use Rattle.time_space.proofs.Firsts.{not_both}
-use Rattle.time_space.proofs.RulesOut.{not_base}
-use Rattle.band_measure.specs.Pairs.{RunsOn, OwnPair, with_pair, with_pairs}
+use Rattle.time_space.proofs.Firsts.{not_both, after_base}
 use Rattle.second_plan.specs.Seconds.{IsWholeCycle}
 use Rattle.band_measure.specs.Cut.{IsCut}
 use Rattle.band_measure.specs.declared.bands.Bands.{Bands}
@@ -33,16 +31,16 @@ use Rattle.second_plan.specs.Grid.{fineness, in_seconds}
 pub natural : (z : ℤ) → pos 0 ≤ℤ z → pos (unsigned_abs z) ≡ z
 natural z h = omega (arith, ints)
 
-module _ (a : Street) (t : TimingRecord) (valid : IsValid a) (base : IsBase a t) (k : ℕ) (offsets : List ℕ) (whole_cycle : IsWholeCycle a k) (some : 1 ≤ k) (long : length offsets ≡ count a) where
+module _ (a : Street) (t : BaseRecord) (valid : IsValid a) (base : IsBase a t) (k : ℕ) (offsets : List ℕ) (whole_cycle : IsWholeCycle a k) (some : 1 ≤ k) (long : length offsets ≡ count a) where
   fine_least : 1 ≤ fineness a
   fine_least = let p = valid.least_parts in omega arith
 
-  -- the timing on the grid that is as fine as the plan's
-  fine_base : IsBase a (finer (fineness a) t)
-  fine_base = (base_both a t (fineness a) valid base.plan.unit fine_least).0 base
+  -- the base on the grid that is as fine as the plan's
+  fine_base : IsBase a (finer_base (fineness a) t)
+  fine_base = (base_both a t (fineness a) valid base.formed.unit fine_least).0 base
 
   pub unit_least : 2 ≤ 2 * k * t.grid
-  unit_least = let g = base.plan.grid in let m : 1 * 1 ≤ k * t.grid = grind (arith, mul-le-mul_right) in omega (arith, m)
+  unit_least = let g = base.formed.grid in let m : 1 * 1 ≤ k * t.grid = grind (arith, mul-le-mul_right) in omega (arith, m)
 
   cycle_is : cycle a (in_seconds a t k offsets) ≡ k * (t.grid * fineness a)
   cycle_is = omega arith
@@ -62,53 +60,42 @@ module _ (a : Street) (t : TimingRecord) (valid : IsValid a) (base : IsBase a t)
   cycle_most = subst (λ z. z ≤ℚ (a.head.cycle.most *ℚ number (t.grid * fineness a))) (sym seconds_times)
       (≤ℚ-*ℚ (number k) a.head.cycle.most (number (t.grid * fineness a)) whole_cycle.most not_negative)
 
-  module _ (x : ℤ) (b : ℕ) (y : ℤ) (c : ℕ) where
-    abbrev plan : TimingRecord
-    plan = with_pairs x b y c (in_seconds a t k offsets)
+  abbrev plan : BaseRecord
+  plan = in_seconds a t k offsets
 
-    run_same : (d : Dir) (i : ℕ) → run plan d i ≡ run (finer (fineness a) t) d i
-    run_same Outbound i = refl
-    run_same Inbound i = refl
+  run_same : (d : Dir) (i : ℕ) → run plan d i ≡ run (finer_base (fineness a) t) d i
+  run_same Outbound i = refl
+  run_same Inbound i = refl
 
-    pace_same : (d : Dir) (i : ℕ) → pace_change a plan d i ≡ pace_change a (finer (fineness a) t) d i
-    pace_same Outbound i = refl
-    pace_same Inbound i = refl
+  pace_same : (d : Dir) (i : ℕ) → pace_change a plan d i ≡ pace_change a (finer_base (fineness a) t) d i
+  pace_same Outbound i = refl
+  pace_same Inbound i = refl
 
-    pub plan_base : IsBase a plan
-    plan_base = record {
-      plan = record {
-        grid = fine_base.plan.grid;
-        unit = unit_least;
-        reds = length-map offsets (λ offset. pos (offset * (t.grid * fineness a))) ∙ long ∙ sym base.shape;
-        run_out = fine_base.plan.run_out;
-        run_in = fine_base.plan.run_in;
-      };
-      shape = base.shape;
-      patterns = base.patterns;
-      cycle_least = cycle_least;
-      cycle_most = cycle_most;
-      fast = λ d i l. subst (λ n. (run_low a d i *ℚ number (t.grid * fineness a)) ≤ℚ number n) (sym (run_same d i)) (fine_base.fast d i l);
-      slow = λ d i l. subst (λ n. number n ≤ℚ (run_high a d i *ℚ number (t.grid * fineness a))) (sym (run_same d i)) (fine_base.slow d i l);
-      rise = λ d i l m. subst (λ p. IfSome (change a d i) (λ (s : Pair). p ≤ℚ (s.most *ℚ number (t.grid * fineness a)))) (sym (pace_same d i)) (fine_base.rise d i l m);
-      drop = λ d i l m. subst (λ p. IfSome (change a d i) (λ (s : Pair). (s.least *ℚ number (t.grid * fineness a)) ≤ℚ p)) (sym (pace_same d i)) (fine_base.drop d i l m);
-    }
+  pub plan_base : IsBase a plan
+  plan_base = record {
+    formed = record {
+      grid = fine_base.formed.grid;
+      unit = unit_least;
+      reds = length-map offsets (λ offset. pos (offset * (t.grid * fineness a))) ∙ long ∙ sym base.shape;
+      run_out = fine_base.formed.run_out;
+      run_in = fine_base.formed.run_in;
+    };
+    shape = base.shape;
+    patterns = base.patterns;
+    cycle_least = cycle_least;
+    cycle_most = cycle_most;
+    fast = λ d i l. subst (λ n. (run_low a d i *ℚ number (t.grid * fineness a)) ≤ℚ number n) (sym (run_same d i)) (fine_base.fast d i l);
+    slow = λ d i l. subst (λ n. number n ≤ℚ (run_high a d i *ℚ number (t.grid * fineness a))) (sym (run_same d i)) (fine_base.slow d i l);
+    rise = λ d i l m. subst (λ p. IfSome (change a d i) (λ (s : Pair). p ≤ℚ (s.most *ℚ number (t.grid * fineness a)))) (sym (pace_same d i)) (fine_base.rise d i l m);
+    drop = λ d i l m. subst (λ p. IfSome (change a d i) (λ (s : Pair). (s.least *ℚ number (t.grid * fineness a)) ≤ℚ p)) (sym (pace_same d i)) (fine_base.drop d i l m);
+  }
 
--- ---- narrower bands run too
-module _ (a : Street) (t : TimingRecord) (x : ℤ) (b c : ℕ) where
-  crossing_same : (d : Dir) (j : ℕ) → crossing a (with_pair x b t) d j ≡ crossing a (with_pair x c t) d j
-  crossing_same Outbound zero = refl
-  crossing_same Inbound zero = refl
-  crossing_same Outbound (suc j) = ap (λ z. z +ℤ advance a t Outbound j) (crossing_same Outbound j)
-  crossing_same Inbound (suc j) = ap (λ z. z +ℤ advance a t Inbound j) (crossing_same Inbound j)
-
-  pub runs_narrow : (d : Dir) → c ≤ b → RunsOn a t d x b → RunsOn a t d x c
-  runs_narrow Outbound l g = λ j m s q. let i = stop Outbound (count a) j in
-      subst (λ z. IsTrue (is_green (cycle a t) (red_start a t Outbound i) (red_ticks a t Outbound i) (z +ℤ pos s))) (crossing_same Outbound j) (g j m s (omega arith))
-  runs_narrow Inbound l g = λ j m s q. let i = stop Inbound (count a) j in
-      subst (λ z. IsTrue (is_green (cycle a t) (red_start a t Inbound i) (red_ticks a t Inbound i) (z +ℤ pos s))) (crossing_same Inbound j) (g j m s (omega arith))
+-- a narrower band runs too
+runs_narrow : (a : Street) (t : BaseRecord) (d : Dir) (x : ℤ) (b c : ℕ) → c ≤ b → RunsOn a t d x b → RunsOn a t d x c
+runs_narrow a t d x b c l g = λ j m s q. g j m s (omega (arith, l, q))
 
 -- ---- what may fail
-module _ (a : Street) (p : TimingRecord) (base : IsBase a p) (ratio : RatioHolds a.head.ratio p.band_out p.band_in) (equal : HasEqualBands a p)
+module _ (a : Street) (p : TimingRecord) (keeps : IsBase a (base p)) (ratio : RatioHolds a.head.ratio p.band_out p.band_in) (equal : HasEqualBands a p)
     (outbound : IsGreenWay a p Outbound) (inbound : IsGreenWay a p Inbound) where
   pub only_least : (f : Failing) → IsFirstFailing a p f → (d : Dir) × (f ≡ failing.Least d)
   only_least failing.Ratio h = absurd (h.fails ratio)
@@ -116,22 +103,22 @@ module _ (a : Street) (p : TimingRecord) (base : IsBase a p) (ratio : RatioHolds
   only_least failing.Equal h = absurd (h.fails equal)
   only_least (failing.Outbound i tick) h = let w = h.fails in absurd (not_both a p Outbound w.at w.here.after (outbound w.at w.on_way) w.here.blocked)
   only_least (failing.Inbound i tick) h = let w = h.fails in absurd (not_both a p Inbound w.at w.here.after (inbound w.at w.on_way) w.here.blocked)
-  only_least f h = absurd (not_base a p f h (omega arith) base)
+  only_least f h = let rule = after_base a p keeps f h.fails in absurd (omega (arith, rule))
 
 -- ---- of a plan whose bands are cut
-module _ (a : Street) (t : TimingRecord) (valid : IsValid a) (base : IsBase a t) (k : ℕ) (offsets : List ℕ) (whole_cycle : IsWholeCycle a k) (some : 1 ≤ k)
-    (long : length offsets ≡ count a) (own : OwnPair) where
+module _ (a : Street) (t : BaseRecord) (valid : IsValid a) (base : IsBase a t) (k : ℕ) (offsets : List ℕ) (whole_cycle : IsWholeCycle a k) (some : 1 ≤ k)
+    (long : length offsets ≡ count a) where
   pub least_alone : (x : ℕ) (o : ℕ) (y : ℕ) (i : ℕ) (wide bands : Bands) → IsCut a wide bands → o ≤ wide.outbound → i ≤ wide.inbound → o ≡ bands.outbound → i ≡ bands.inbound
       → RunsOn a (in_seconds a t k offsets) Outbound (pos x) wide.outbound → RunsOn a (in_seconds a t k offsets) Inbound (pos y) wide.inbound
-      → (p : TimingRecord) → p ≡ with_pairs (pos x) o (pos y) i (in_seconds a t k offsets) → (f : Failing) → IsFirstFailing a p f → (d : Dir) × (f ≡ failing.Least d)
+      → (p : TimingRecord) → p ≡ banded (pos x) o (pos y) i (in_seconds a t k offsets) → (f : Failing) → IsFirstFailing a p f → (d : Dir) × (f ≡ failing.Least d)
   least_alone x o y i wide bands cut l m q r out inward p is f first =
-      let plan = with_pairs (pos x) o (pos y) i (in_seconds a t k offsets) in
+      let plan = banded (pos x) o (pos y) i (in_seconds a t k offsets) in
       let n = unsigned_abs a.head.ratio.num in
       let e = natural a.head.ratio.num (let w = valid.ratio.least in omega (arith, ints)) in
       only_least a plan
-      (plan_base a t valid base k offsets whole_cycle some long (pos x) o (pos y) i)
+      (plan_base a t valid base k offsets whole_cycle some long)
       (subst (λ v. RatioHolds a.head.ratio o v) (sym r) (subst (λ v. RatioHolds a.head.ratio v bands.inbound) (sym q) (cut_ratio a n e wide bands cut)))
       (λ equal. q ∙ cut_equal a n e wide bands cut equal ∙ sym r)
-      ((own a plan Outbound).1 (runs_narrow a (in_seconds a t k offsets) (pos x) wide.outbound o Outbound l out))
-      ((own a plan Inbound).1 (runs_narrow a (in_seconds a t k offsets) (pos y) wide.inbound i Inbound m inward))
+      (runs_narrow a (in_seconds a t k offsets) Outbound (pos x) wide.outbound o l out)
+      (runs_narrow a (in_seconds a t k offsets) Inbound (pos y) wide.inbound i m inward)
       f (subst (λ r. IsFirstFailing a r f) is first)

@@ -3,7 +3,7 @@ use Rattle.std.specs.Prelude.{◌≡◌, ℕ, ◌-◌, ◌*◌, ◌%◌, ◌<◌
 use Rattle.rational_theory.specs.Rational.{◌≤ℚ◌}
 use Rattle.progression.specs.Street.{Street, count, HasSignal}
 use Rattle.progression.specs.Speeds.{number}
-use Rattle.progression.specs.TimingRecord.{TimingRecord, cycle, common_red}
+use Rattle.progression.specs.BaseRecord.{BaseRecord, cycle, common_red}
 use Rattle.progression.specs.Green.{since}
 use Rattle.second_plan.specs.Nearest.{IsNearest, AnyNumber}
 
@@ -13,23 +13,23 @@ pub record IsWholeCycle (a : Street) (k : ℕ) : Type 0 where
   pub most : number k ≤ℚ a.head.cycle.most
 
 -- the whole cycle nearest to the timing's, which takes cycle / grid seconds
-abbrev pub IsSeconds : Street → TimingRecord → ℕ → Type 0
-IsSeconds a t k = IsNearest (IsWholeCycle a) (cycle a t) t.grid k
+abbrev pub IsSeconds : Street → BaseRecord → ℕ → Type 0
+IsSeconds a b k = IsNearest (IsWholeCycle a) (cycle a b) b.grid k
 
 -- how many ticks after signal 1's red signal i's begins, from 0 to a cycle less 1
-abbrev pub red_after : Street → TimingRecord → ℕ → ℕ
-red_after a t i = since (cycle a t) (common_red t 1) (common_red t i)
+abbrev pub red_after : Street → BaseRecord → ℕ → ℕ
+red_after a b i = since (cycle a b) (common_red b 1) (common_red b i)
 
 -- the same share of a cycle of k seconds, rounded, and 0 where that is a whole cycle
-pub record IsOffset (a : Street) (t : TimingRecord) (k i offset : ℕ) : Type 0 where
+pub record IsOffset (a : Street) (b : BaseRecord) (k i offset : ℕ) : Type 0 where
   pub rounded : ℕ
-  pub near : IsNearest AnyNumber (k * red_after a t i) (cycle a t) rounded
+  pub near : IsNearest AnyNumber (k * red_after a b i) (cycle a b) rounded
   pub within : offset ≡ rounded % k
 
 -- one for each signal, from the first on
-pub record AreOffsets (a : Street) (t : TimingRecord) (k : ℕ) (offsets : List ℕ) : Type 0 where
+pub record AreOffsets (a : Street) (b : BaseRecord) (k : ℕ) (offsets : List ℕ) : Type 0 where
   pub each_has : length offsets ≡ count a
-  pub each : (i : ℕ) → HasSignal a i → IsOffset a t k i (slice_index offsets (i - 1))
+  pub each : (i : ℕ) → HasSignal a i → IsOffset a b k i (slice_index offsets (i - 1))
 
 -- a cycle of at most an hour, and offsets below it
 pub record IsRounded (k : ℕ) (offsets : List ℕ) : Type 0 where

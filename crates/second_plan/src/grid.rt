@@ -1,25 +1,15 @@
-//! The plan's grid: whether a timing can hold its numbers, and the timing of these numbers.
+//! The plan's base: whether a timing can hold its numbers, and the base of these numbers.
 
-ghost use Rattle.std.specs.Prelude.{◌≡◌, ◌<◌, ◌≤◌, ◌*◌, ◌^◌, pos, length, map, find, nat_le, [], ◌∷◌, All, None, IfOk};
-ghost use Rattle.progression.specs.{Street.{count}, TimingRecord.{cycle}};
-ghost use Rattle.band_measure.specs.Pairs.{with_pairs};
+ghost use Rattle.std.specs.Prelude.{◌≡◌, ◌<◌, ◌≤◌, ◌*◌, ◌^◌, length, map, find, nat_le, [], ◌∷◌, All, None, IfOk};
+ghost use Rattle.progression.specs.{Street.{count}, BaseRecord.{cycle}};
 ghost use Rattle.second_plan.specs.{Grid.{fineness, plan_grid, plan_unit, in_seconds, too_fine}, Seconds.{IsRounded}};
+ghost use Rattle.time_space.specs.Timing.{IsFor};
 
 use crate::seconds::Rounded;
 use artery_model::Artery;
-use band_measure::{BothPairs, GridScale, Widest, timing_with};
 use narrow_fraction::Memory;
 use std::alloc::Global;
-use time_space::{LIMIT, Timing};
-
-/// A first line and a band of 0: in place of a pair where none is known yet, or none runs.
-pub const NO_PAIR: Widest = Widest { first: 0, band: 0 };
-
-/// The same in both directions.
-pub const NO_PAIRS: BothPairs = BothPairs {
-    outbound: NO_PAIR,
-    inbound: NO_PAIR,
-};
+use time_space::{Base, LIMIT};
 
 /// How many ticks of the plan a tick of the timing has.
 fn fineness(artery: &Artery) -> u128
@@ -30,20 +20,20 @@ fn fineness(artery: &Artery) -> u128
 }
 
 /// The plan's ticks in a second.
-fn grid(artery: &Artery, timing: &Timing) -> u128
-    ensures value { result ≡ plan_grid artery.now timing.now }
+fn grid(artery: &Artery, base: &Base) -> u128
+    ensures value { result ≡ plan_grid artery.now base.now }
     ensures small { result < 2 ^ 93 }
 {
-    timing.grid() * fineness(artery)
+    base.grid() * fineness(artery)
 }
 
 /// The plan's ticks in a part.
-fn unit(timing: &Timing, seconds: u64) -> u128
+fn unit(base: &Base, seconds: u64) -> u128
     requires small { seconds ≤ 3600 }
-    ensures value { result ≡ plan_unit timing.now seconds }
+    ensures value { result ≡ plan_unit base.now seconds }
     ensures small { result < 2 ^ 93 }
 {
-    2 * u128::from(seconds) * timing.grid()
+    2 * u128::from(seconds) * base.grid()
 }
 
 /// The number, where a timing can't hold it.
@@ -65,23 +55,23 @@ fn large_run(runs: &[u128], fineness: u128) -> Option<u128>
 }
 
 /// The plan's cycle in ticks, where a timing can't hold it.
-fn large_cycle(artery: &Artery, timing: &Timing, seconds: u64) -> Option<u128>
+fn large_cycle(artery: &Artery, base: &Base, seconds: u64) -> Option<u128>
     requires small { seconds ≤ 3600 }
-    ensures { result ≡ find (λ n. nat_le (2 ^ 80) n) (cycle artery.now (in_seconds artery.now timing.now seconds []) ∷ []) }
+    ensures { result ≡ find (λ n. nat_le (2 ^ 80) n) (cycle artery.now (in_seconds artery.now base.now seconds []) ∷ []) }
 {
-    large(u128::from(artery.parts()) * unit(timing, seconds))
+    large(u128::from(artery.parts()) * unit(base, seconds))
 }
 
 /// The first number of the plan that a timing can't hold.
-pub fn too_fine(artery: &Artery, timing: &Timing, seconds: u64) -> Option<u128>
+pub fn too_fine(artery: &Artery, base: &Base, seconds: u64) -> Option<u128>
     requires small { seconds ≤ 3600 }
-    ensures { result ≡ too_fine artery.now timing.now seconds }
+    ensures { result ≡ too_fine artery.now base.now seconds }
 {
     let fineness = fineness(artery);
-    large(grid(artery, timing))
-        .or(large_run(timing.run_out(), fineness))
-        .or(large_run(timing.run_in(), fineness))
-        .or(large_cycle(artery, timing, seconds))
+    large(grid(artery, base))
+        .or(large_run(base.run_out(), fineness))
+        .or(large_run(base.run_in(), fineness))
+        .or(large_cycle(artery, base, seconds))
 }
 
 /// Each of the numbers so many times.
@@ -106,38 +96,31 @@ pub fn reds(alloc: Global, offsets: &[u64], grid: u128) -> Result<Vec<u128>, Mem
     Ok(made)
 }
 
-/// The timing of the plan with these pairs.
-pub fn timed(
+/// The base of the plan.
+pub fn in_seconds(
     alloc: Global,
     artery: &Artery,
-    timing: &Timing,
+    base: &Base,
     rounded: &Rounded,
-    pairs: BothPairs,
-) -> Result<Timing, Memory>
+) -> Result<Base, Memory>
     requires rounded { IsRounded rounded.now.seconds rounded.now.offsets.items }
-    requires fine { too_fine artery.now timing.now rounded.now.seconds ≡ None }
-    requires shape { length timing.now.patterns ≡ count artery.now }
+    requires fine { too_fine artery.now base.now rounded.now.seconds ≡ None }
+    requires shape { IsFor artery.now base.now }
     requires offsets { length rounded.now.offsets.items ≡ count artery.now }
-    requires first_out { pairs.outbound.first < 2 ^ 80 }
-    requires band_out { pairs.outbound.band < 2 ^ 80 }
-    requires first_in { pairs.inbound.first < 2 ^ 80 }
-    requires band_in { pairs.inbound.band < 2 ^ 80 }
-    ensures { IfOk result (λ plan. plan ≡ with_pairs (pos pairs.outbound.first) pairs.outbound.band (pos pairs.inbound.first) pairs.inbound.band
-        (in_seconds artery.now timing.now rounded.now.seconds rounded.now.offsets.items)) }
+    ensures { IfOk result (λ made. made ≡ in_seconds artery.now base.now rounded.now.seconds rounded.now.offsets.items) }
 {
     artery.known_valid();
-    // its contract says what a timing's lists are
-    let _ = timing.count();
+    // its contract says what a base's lists are
+    let _ = base.count();
     let fineness = fineness(artery);
-    let grid = grid(artery, timing);
-    let unit = unit(timing, rounded.seconds);
-    let patterns = Vec::from_slice(alloc, timing.patterns())?;
+    let grid = grid(artery, base);
+    let unit = unit(base, rounded.seconds);
+    let patterns = Vec::from_slice(alloc, base.patterns())?;
     let reds = reds(alloc, rounded.offsets.as_slice(), grid)?;
-    let run_out = multiples(alloc, timing.run_out(), fineness)?;
-    let run_in = multiples(alloc, timing.run_in(), fineness)?;
-    let scale = GridScale { grid, unit };
-    match timing_with(scale, patterns, reds, run_out, run_in, pairs) {
-        Some(plan) => Ok(plan),
+    let run_out = multiples(alloc, base.run_out(), fineness)?;
+    let run_in = multiples(alloc, base.run_in(), fineness)?;
+    match Base::new(grid, unit, patterns, reds, run_out, run_in) {
+        Some(made) => Ok(made),
         None => unreachable!(),
     }
 }

@@ -2,7 +2,7 @@
 
 ghost use Rattle.second_plan.specs.Ends.{OneEnd, PlanOrEnd, OnePlan};
 
-/// Of a good timing at most one end comes.
+/// Of a base that keeps the rules at most one end comes.
 pub fn law_one_end()
     ensures { OneEnd }
 {}

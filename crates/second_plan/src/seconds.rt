@@ -1,15 +1,16 @@
 //! The cycle and the offsets in whole seconds.
 
-ghost use Rattle.std.specs.Prelude.{◌≡◌, ◌+◌, ◌<◌, ◌≤◌, ◌*◌, ◌-◌, ◌^◌, ◌↔◌, ℕ, pos, ◌≤ℤ◌, ◌*ℤ◌, length, All, IfOk, IfSome, MatchOption};
+ghost use Rattle.std.specs.Prelude.{◌+◌, ◌<◌, ◌≤◌, ◌*◌, ◌-◌, ◌^◌, ◌↔◌, ℕ, pos, ◌≤ℤ◌, ◌*ℤ◌, All, IfOk, IfSome, MatchOption};
 ghost use Rattle.rational_theory.specs.Rational.{◌≤ℚ◌};
-ghost use Rattle.progression.specs.{Street.{count}, Speeds.{number}, TimingRecord.{cycle}};
+ghost use Rattle.progression.specs.{Street.{count, HasSignal}, Speeds.{number}, BaseRecord.{cycle}};
 ghost use Rattle.second_plan.specs.{Nearest.{IsNearest}, Seconds.{IsWholeCycle, IsSeconds, IsOffset, AreOffsets}};
+ghost use Rattle.time_space.specs.Timing.{IsFor};
 
 use crate::nearest::nearest;
 use artery_model::Artery;
 use narrow_fraction::{Frac, Memory};
 use std::alloc::Global;
-use time_space::{Timing, cycle, since_start};
+use time_space::{Base, since_start};
 
 /// A cycle of so many whole seconds, and each signal's offset in it.
 #[derive(Drop)]
@@ -61,10 +62,10 @@ fn nearest_within(number: u128, by: u128, least: u64, most: u64) -> u64
     }
 }
 
-/// The whole number of seconds within the limits of the cycle that is nearest to the timing's cycle, of two the lesser.
+/// The whole number of seconds within the limits of the cycle that is nearest to the base's cycle, of two the lesser.
 /// None comes exactly where there is none.
-pub fn whole_cycle(artery: &Artery, timing: &Timing) -> Option<u64>
-    ensures nearest { MatchOption result ((k : ℕ) → ¬ IsWholeCycle artery.now k) (λ k. IsSeconds artery.now timing.now k) }
+pub fn whole_cycle(artery: &Artery, base: &Base) -> Option<u64>
+    ensures nearest { MatchOption result ((k : ℕ) → ¬ IsWholeCycle artery.now k) (λ k. IsSeconds artery.now base.now k) }
     ensures some { IfSome result (λ k. 1 ≤ k) }
     ensures small { IfSome result (λ k. k ≤ 3600) }
 {
@@ -74,21 +75,20 @@ pub fn whole_cycle(artery: &Artery, timing: &Timing) -> Option<u64>
     if most < least {
         return None;
     }
-    Some(nearest_within(cycle(artery, timing), timing.grid(), least, most))
+    Some(nearest_within(base.cycle(artery), base.grid(), least, most))
 }
 
 /// The offset of a signal in whole seconds, from 0 to `seconds - 1`.
-fn offset(artery: &Artery, timing: &Timing, seconds: u64, signal: u32) -> u64
+fn offset(artery: &Artery, base: &Base, seconds: u64, signal: u32) -> u64
     requires some { 1 ≤ seconds }
     requires small { seconds ≤ 3600 }
-    requires shape { length timing.now.patterns ≡ count artery.now }
-    requires first { 1 ≤ signal }
-    requires last { signal ≤ count artery.now }
-    ensures value { IsOffset artery.now timing.now seconds signal result }
+    requires shape { IsFor artery.now base.now }
+    requires signal { HasSignal artery.now signal }
+    ensures value { IsOffset artery.now base.now seconds signal result }
     ensures below { result < seconds }
 {
-    let cycle = cycle(artery, timing);
-    let after = since_start(cycle, timing.common_red(1), timing.common_red(signal));
+    let cycle = base.cycle(artery);
+    let after = since_start(cycle, base.common_red(1), base.common_red(signal));
     let rounded = nearest(u128::from(seconds) * after, cycle);
     (rounded % u128::from(seconds)) as u64
 }
@@ -97,18 +97,18 @@ fn offset(artery: &Artery, timing: &Timing, seconds: u64, signal: u32) -> u64
 pub fn offsets(
     alloc: Global,
     artery: &Artery,
-    timing: &Timing,
+    base: &Base,
     seconds: u64,
 ) -> Result<Vec<u64>, Memory>
     requires some { 1 ≤ seconds }
     requires small { seconds ≤ 3600 }
-    requires shape { length timing.now.patterns ≡ count artery.now }
-    ensures value { IfOk result (λ offsets. AreOffsets artery.now timing.now seconds offsets.items) }
+    requires shape { IsFor artery.now base.now }
+    ensures value { IfOk result (λ offsets. AreOffsets artery.now base.now seconds offsets.items) }
     ensures below { IfOk result (λ offsets. All (λ n. n < seconds) offsets.items) }
 {
     let mut offsets = Vec::new(alloc);
     for place in 0..artery.count() {
-        offsets.push(offset(artery, timing, seconds, place + 1))?;
+        offsets.push(offset(artery, base, seconds, place + 1))?;
     }
     Ok(offsets)
 }

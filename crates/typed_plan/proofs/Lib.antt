@@ -4,11 +4,11 @@ pub mod Shared
 pub mod Ticks
 pub mod AtSpeed
 pub mod Moments
-pub mod LeastTiming
+pub mod LeastGrid
 pub mod First
 pub mod Chain
 pub mod Fine
-pub mod Framed
+pub mod LeastBase
 pub mod Forward
 pub mod Timed
 pub mod OneTiming

@@ -1,12 +1,12 @@
 -- The moment from which a signal's offset counts, from the start of its common red.
-use Rattle.std.proofs.Common.{◌≡◌, ℕ, ℤ, ◌+◌, ◌*◌, pos, Bool, true, false, refl, sym, ◌∙◌, ap, ap₂, arith, unsigned_abs}
+use Rattle.std.proofs.Common.{◌≡◌, ℕ, ℤ, ◌*◌, pos, Bool, true, false, sym, ◌∙◌, ap, ap₂, arith, unsigned_abs}
 use Rattle.std.specs.Prelude.{◌+ℤ◌, ◌-ℤ◌, ◌*ℤ◌, ◌≤ℤ◌, neg_ℤ, if◌then◌else◌}
 use Rattle.std.specs.Int.{int_min}
 use Rattle.std.proofs.lemmas.Int.{ints, clamps, by_lt_z}
 use Rattle.rational_theory.proofs.Integers.{+ℤ-*ℤ, neg_ℤ-*ℤ}
 use Rattle.progression.specs.Street.{Street, left_against, red_parts}
-use Rattle.progression.specs.Green.{is_early, ahead, red_start, red_ticks}
-use Rattle.progression.specs.TimingRecord.{TimingRecord, pattern_of, common_red}
+use Rattle.progression.specs.Green.{is_early, red_start}
+use Rattle.progression.specs.BaseRecord.{BaseRecord, pattern_of, common_red}
 use Rattle.progression.specs.declared.parts.Dir.{Dir}
 use Rattle.progression.specs.declared.parts.Dir.TheVariants.{Outbound, Inbound}
 use Rattle.description_reader.specs.declared.measure.Reference.{Reference}
@@ -14,7 +14,7 @@ use Rattle.description_reader.specs.declared.measure.Reference.TheVariants.{Red,
 use Rattle.typed_plan.specs.Asked.{green_start, moment}
 use Rattle.typed_plan.specs.Grid.{start_part, end_part, moment_part}
 
-module _ (a : Street) (t : TimingRecord) (d : Dir) (i : ℕ) where
+module _ (a : Street) (t : BaseRecord) (d : Dir) (i : ℕ) where
   early : (b : Bool) (n u : ℕ) (z : ℤ) → z -ℤ pos (if b then n * u else 0) ≡ z +ℤ (pos 0 -ℤ pos (if b then n else 0)) *ℤ pos u
   early true n u z =
       let e : (pos 0 -ℤ pos n) *ℤ pos u ≡ neg_ℤ (pos (n * u)) = ap (λ w. w *ℤ pos u) (let f : pos 0 -ℤ pos n ≡ neg_ℤ (pos n) = omega (arith, ints) in f) ∙ neg_ℤ-*ℤ (pos n) (pos u) in
@@ -51,7 +51,7 @@ lesser_times x y z u = by_lt_z {P = int_min (z +ℤ x *ℤ pos u) (z +ℤ y *ℤ
     (λ l. let m = more y x u (omega (arith, ints, l)) in left_first (z +ℤ x *ℤ pos u) (z +ℤ y *ℤ pos u) (omega (arith, ints, m))
     ∙ ap (λ w. z +ℤ w *ℤ pos u) (sym (left_first x y (omega (arith, ints, l)))))
 
-pub moment_is : (a : Street) (r : Reference) (t : TimingRecord) (i : ℕ) → moment a r t i ≡ common_red t i +ℤ moment_part a r (pattern_of t i) i *ℤ pos t.unit
+pub moment_is : (a : Street) (r : Reference) (t : BaseRecord) (i : ℕ) → moment a r t i ≡ common_red t i +ℤ moment_part a r (pattern_of t i) i *ℤ pos t.unit
 moment_is a Red t i = let e : pos 0 *ℤ pos t.unit ≡ pos 0 = omega (arith, ints) in omega (arith, ints, e)
 moment_is a GreenOut t i = green_is a t Outbound i
 moment_is a GreenIn t i = green_is a t Inbound i

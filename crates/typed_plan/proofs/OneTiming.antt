@@ -10,11 +10,11 @@ use Rattle.rational_theory.proofs.Arithmetic.{over_ratio}
 use Rattle.rational_theory.proofs.Integers.{+ℤ-*ℤ, neg_ℤ-*ℤ}
 use Rattle.progression.proofs.Remainders.{mod_unique}
 use Rattle.progression.specs.Street.{Street, count, HasSignal, HasLink}
-use Rattle.progression.specs.TimingRecord.{TimingRecord, cycle, pattern_of, common_red, run}
+use Rattle.progression.specs.TimingRecord.{base}
+use Rattle.progression.specs.BaseRecord.{BaseRecord, cycle, pattern_of, common_red, run}
 use Rattle.progression.specs.declared.parts.Dir.{Dir}
 use Rattle.progression.specs.declared.parts.Dir.TheVariants.{Outbound, Inbound}
 use Rattle.artery_model.specs.Valid.{IsValid}
-use Rattle.band_measure.specs.Pairs.{with_pairs}
 use Rattle.band_measure.specs.Widest.{IsWidestBand}
 use Rattle.band_measure.specs.declared.pair.Widest.{Widest}
 use Rattle.band_measure.specs.declared.bands.Bands.{Bands}
@@ -23,13 +23,12 @@ use Rattle.band_measure.proofs.AllGrids.{finer_pairs, one_widest}
 use Rattle.description_reader.specs.Typed.{Typed}
 use Rattle.description_reader.specs.declared.measure.Reference.{Reference}
 use Rattle.typed_plan.specs.Asked.{moment}
-use Rattle.typed_plan.specs.Ends.{ArePut, pair_or_none, IsTimingOf, OneTiming}
+use Rattle.typed_plan.specs.Ends.{ArePut, pair_or_none, paired, IsTimingOf, OneTiming}
 use Rattle.typed_plan.specs.Grid.{moment_part}
 use Rattle.typed_plan.specs.declared.timing.Measured.{Measured}
 use Rattle.typed_plan.proofs.Counted.{has_counts}
 use Rattle.typed_plan.proofs.Moments.{moment_is}
 use Rattle.typed_plan.proofs.Ticks.{cross_of}
-use Rattle.typed_plan.proofs.Timed.{moved}
 
 -- over one number above 0, equal quotients have equal numerators
 over_once : (z w : ℤ) (g f : ℕ) → 0 < g → g ≡ f → over z g ≡ over w f → z ≡ w
@@ -54,16 +53,12 @@ lead_by a r pattern unit i = moment_part a r pattern i *ℤ pos unit
 both_least : (m n : ℕ) → m ≤ n → n ≤ m → m ≡ n
 both_least m n h k = omega arith
 
--- without firsts and bands
-abbrev bare : TimingRecord → TimingRecord
-bare t = with_pairs (pos 0) 0 (pos 0) 0 t
-
 module _ (a : Street) (p : Typed) (m n : Measured) (valid : IsValid a) (h : IsTimingOf a p m) (k : IsTimingOf a p n) where
-  abbrev t : TimingRecord
-  t = m.timing
+  abbrev t : BaseRecord
+  t = base m.timing
 
-  abbrev s : TimingRecord
-  s = n.timing
+  abbrev s : BaseRecord
+  s = base n.timing
 
   same_grid : t.grid ≡ s.grid
   same_grid = both_least t.grid s.grid (h.least.grid s k.least.as_typed) (k.least.grid t h.least.as_typed)
@@ -82,25 +77,25 @@ module _ (a : Street) (p : Typed) (m n : Measured) (valid : IsValid a) (h : IsTi
 
   same_run : (d : Dir) (i : ℕ) → HasLink a i → run t d i ≡ run s d i
   same_run d i l =
-      ap unsigned_abs (over_once (pos (run t d i)) (pos (run s d i)) t.grid s.grid h.least.as_typed.plan.grid same_grid (h.least.as_typed.runs d i l ∙ sym (k.least.as_typed.runs d i l)))
+      ap unsigned_abs (over_once (pos (run t d i)) (pos (run s d i)) t.grid s.grid h.least.as_typed.formed.grid same_grid (h.least.as_typed.runs d i l ∙ sym (k.least.as_typed.runs d i l)))
 
   back_again : (i : ℕ) → i + 1 - 1 ≡ i
   back_again i = omega arith
 
   same_out : t.run_out ≡ s.run_out
   same_out =
-      let own = h.least.as_typed.plan.run_out in let other = k.least.as_typed.plan.run_out in let pats = ap length same_patterns in let w = wide in
+      let own = h.least.as_typed.formed.run_out in let other = k.least.as_typed.formed.run_out in let pats = ap length same_patterns in let w = wide in
       ext_get_or 0 t.run_out s.run_out (omega (arith, own, other, pats)) (λ i l.
       subst (λ j. get_or t.run_out j 0 ≡ get_or s.run_out j 0) (back_again i) (same_run Outbound (i + 1) (omega arith, omega (arith, l, own, w))))
 
   same_in_runs : t.run_in ≡ s.run_in
   same_in_runs =
-      let own = h.least.as_typed.plan.run_in in let other = k.least.as_typed.plan.run_in in let pats = ap length same_patterns in let w = wide in
+      let own = h.least.as_typed.formed.run_in in let other = k.least.as_typed.formed.run_in in let pats = ap length same_patterns in let w = wide in
       ext_get_or 0 t.run_in s.run_in (omega (arith, own, other, pats)) (λ i l.
       subst (λ j. get_or t.run_in j 0 ≡ get_or s.run_in j 0) (back_again i) (same_run Inbound (i + 1) (omega arith, omega (arith, l, own, w))))
 
   -- the moments, from the ticks of the reds
-  from_reds : (r : ℕ) (v : TimingRecord) (i : ℕ) (x : ℤ) → common_red v i ≡ pos r → common_red v 1 ≡ pos 0 → v.unit ≡ t.unit → v.patterns ≡ t.patterns → cycle a v ≡ cycle a t
+  from_reds : (r : ℕ) (v : BaseRecord) (i : ℕ) (x : ℤ) → common_red v i ≡ pos r → common_red v 1 ≡ pos 0 → v.unit ≡ t.unit → v.patterns ≡ t.patterns → cycle a v ≡ cycle a t
       → moment a p.reference v i -ℤ moment a p.reference v 1 +ℤ x *ℤ pos (cycle a v)
       ≡ (pos r +ℤ lead_by a p.reference (pattern_of t i) t.unit i) -ℤ (pos 0 +ℤ lead_by a p.reference (pattern_of t 1) t.unit 1) +ℤ x *ℤ pos (cycle a t)
   from_reds r v i x e f u l c =
@@ -116,7 +111,7 @@ module _ (a : Street) (p : Typed) (m n : Measured) (valid : IsValid a) (h : IsTi
   same_red i l =
       let x = h.least.as_typed.offsets i l in let y = k.least.as_typed.offsets i l in
       let r = h.reds i l in let q = k.reds i l in
-      let e = over_once _ _ t.grid s.grid h.least.as_typed.plan.grid same_grid (x.later ∙ sym y.later) in
+      let e = over_once _ _ t.grid s.grid h.least.as_typed.formed.grid same_grid (x.later ∙ sym y.later) in
       let n : r.tick ≡ q.tick =
       red_once r.tick q.tick (cycle a t) (lead_by a p.reference (pattern_of t i) t.unit i) (lead_by a p.reference (pattern_of t 1) t.unit 1) x.k y.k
       (sym (from_reds r.tick t i x.k r.is h.first refl refl refl) ∙ e ∙ from_reds q.tick s i y.k q.is k.first (sym same_unit) (sym same_patterns) (sym same_cycle))
@@ -125,46 +120,35 @@ module _ (a : Street) (p : Typed) (m n : Measured) (valid : IsValid a) (h : IsTi
 
   same_reds : t.reds ≡ s.reds
   same_reds =
-      let own = h.least.as_typed.plan.reds in let other = k.least.as_typed.plan.reds in let pats = ap length same_patterns in let w = wide in
+      let own = h.least.as_typed.formed.reds in let other = k.least.as_typed.formed.reds in let pats = ap length same_patterns in let w = wide in
       ext_get_or (pos 0) t.reds s.reds (omega (arith, own, other, pats)) (λ i l.
       subst (λ j. get_or t.reds j (pos 0) ≡ get_or s.reds j (pos 0)) (back_again i) (same_red (i + 1) (omega arith, omega (arith, l, own, w))))
 
-  -- with the same pairs they are the same
-  same_with : (x u : ℤ) (b c : ℕ) (y v : ℤ) (e f : ℕ) → x ≡ u → b ≡ c → y ≡ v → e ≡ f → with_pairs x b y e t ≡ with_pairs u c v f s
-  same_with x u b c y v e f out_first out_band in_first in_band = λ i. record {
+  same_base : t ≡ s
+  same_base = λ i. record {
     grid = same_grid i;
     unit = same_unit i;
     patterns = same_patterns i;
     reds = same_reds i;
     run_out = same_out i;
     run_in = same_in_runs i;
-    first_out = out_first i;
-    first_in = in_first i;
-    band_out = out_band i;
-    band_in = in_band i;
   }
 
-  same_bare : bare t ≡ bare s
-  same_bare = same_with (pos 0) (pos 0) 0 0 (pos 0) (pos 0) 0 0 refl refl refl refl
-
   -- of one direction
-  some_runs : (d : Dir) (w : Widest) → IsWidestBand a (bare t) d (Some w) → IsWidestBand a (bare t) d None → ⊥
+  some_runs : (d : Dir) (w : Widest) → IsWidestBand a t d (Some w) → IsWidestBand a t d None → ⊥
   some_runs d w widest none =
-      none 1 (pos w.first *ℤ pos 1) (w.band * 1) (omega arith) ((finer_pairs a (bare t) d 1 (pos w.first) w.band valid h.least.as_typed.plan.unit (omega arith)).0 widest.runs)
+      none 1 (pos w.first *ℤ pos 1) (w.band * 1) (omega arith) ((finer_pairs a t d 1 (pos w.first) w.band valid h.least.as_typed.formed.unit (omega arith)).0 widest.runs)
 
-  same_widest : (d : Dir) (x y : Option Widest) → IsWidestBand a (bare t) d x → IsWidestBand a (bare t) d y → x ≡ y
+  same_widest : (d : Dir) (x y : Option Widest) → IsWidestBand a t d x → IsWidestBand a t d y → x ≡ y
   same_widest d None None g l = refl
   same_widest d None (Some w) g l = absurd (some_runs d w l g)
   same_widest d (Some v) None g l = absurd (some_runs d v g l)
   same_widest d (Some v) (Some w) g l =
-      let e = one_widest a (bare t) d v.first v.band w.first w.band valid h.least.as_typed.plan.unit g l in
+      let e = one_widest a t d v.first v.band w.first w.band valid h.least.as_typed.formed.unit g l in
       ap₂ (λ first band. Some (record { first = first; band = band })) e.0 e.1
 
-  on_bare : (v : TimingRecord) (d : Dir) (found : Option Widest) → IsWidestBand a v d found → IsWidestBand a (bare v) d found
-  on_bare v d found g = moved a v (pos 0) 0 (pos 0) 0 d found g
-
   same_found : (d : Dir) (x y : Option Widest) → IsWidestBand a t d x → IsWidestBand a s d y → x ≡ y
-  same_found d x y g l = same_widest d x y (on_bare t d x g) (subst (λ v. IsWidestBand a v d y) (sym same_bare) (on_bare s d y l))
+  same_found d x y g l = same_widest d x y g (subst (λ v. IsWidestBand a v d y) (sym same_base) l)
 
   natural_ratio : pos (unsigned_abs a.head.ratio.num) ≡ a.head.ratio.num
   natural_ratio = let l = valid.ratio.least in omega (arith, ints, l)
@@ -195,12 +179,10 @@ module _ (a : Street) (p : Typed) (m n : Measured) (valid : IsValid a) (h : IsTi
       same_put h.there h.back m.outbound m.inbound n.outbound n.inbound h.put
       (subst (λ v. ArePut a h.there v n.outbound n.inbound) (sym same_back) (subst (λ u. ArePut a u k.back n.outbound n.inbound) (sym same_there) k.put))
 
-  same_timing : t ≡ s
+  same_timing : m.timing ≡ n.timing
   same_timing =
       let e = same_pairs in
-      h.pairs ∙ same_with (pos (pair_or_none m.outbound).first) (pos (pair_or_none n.outbound).first) (pair_or_none m.outbound).band (pair_or_none n.outbound).band
-      (pos (pair_or_none m.inbound).first) (pos (pair_or_none n.inbound).first) (pair_or_none m.inbound).band (pair_or_none n.inbound).band
-      (ap (λ o. pos (pair_or_none o).first) e.0) (ap (λ o. (pair_or_none o).band) e.0) (ap (λ o. pos (pair_or_none o).first) e.1) (ap (λ o. (pair_or_none o).band) e.1) ∙ sym k.pairs
+      h.pairs ∙ (λ i. paired (same_base i) (pair_or_none (e.0 i)) (pair_or_none (e.1 i))) ∙ sym k.pairs
 
   same_measured : m ≡ n
   same_measured = let e = same_pairs in λ i. record { timing = same_timing i; outbound = e.0 i; inbound = e.1 i }

@@ -5,7 +5,8 @@ use Rattle.std.proofs.lemmas.Int.{ints}
 use Rattle.rational_theory.specs.Rational.{ℚ, whole, over, ◌/ℚ◌, ◌*ℚ◌}
 use Rattle.rational_theory.proofs.Arithmetic.{IsRatio, same_ratio}
 use Rattle.progression.specs.Speeds.{number, seconds}
-use Rattle.progression.specs.TimingRecord.{run}
+use Rattle.progression.specs.TimingRecord.{base}
+use Rattle.progression.specs.BaseRecord.{run}
 use Rattle.progression.specs.Street.{Street, HasLink, distance, no_link}
 use Rattle.progression.specs.declared.parts.Dir.{Dir}
 use Rattle.progression.specs.declared.parts.Dir.TheVariants.{Outbound, Inbound}
@@ -55,7 +56,7 @@ typed_at a p typed counts Inbound i l = let c = counts.links Inbound in typed.ba
 
 pub speeds_come_back : SpeedsComeBack
 speeds_come_back a p m d i valid typed h l e =
-    let t = m.timing in
+    let t = base m.timing in
     let few = valid.few in
     let q = slice_index_or (measured p d) (i - 1) (whole (pos 0)) in
     let n = distance a d i in

@@ -5,7 +5,7 @@ use Rattle.rational_theory.specs.Rational.{ℚ, ◌/ℚ◌}
 use Rattle.rational_theory.specs.Gcd.{lcm}
 use Rattle.progression.specs.Columns.{numbered}
 use Rattle.progression.specs.Green.{is_early, since}
-use Rattle.progression.specs.TimingRecord.{TimingRecord}
+use Rattle.progression.specs.BaseRecord.{BaseRecord}
 use Rattle.progression.specs.Speeds.{number}
 use Rattle.progression.specs.Street.{Street, count, left_against, red_parts}
 use Rattle.progression.specs.declared.parts.Dir.{Dir}
@@ -114,7 +114,7 @@ module _ (a : Street) (p : Typed) where
     pub unit_small : unit < 2 ^ 80
     pub cycle_small : a.head.parts * unit < 2 ^ 80
 
-  -- ---- the timing
+  -- ---- the base
   -- how many ticks after the start of its common red the moment of signal i comes from which its offset counts
   abbrev pub lead : ℕ → ℤ
   lead i = moment_part a p.reference (slice_index p.patterns (i - 1)) i *ℤ pos least_unit
@@ -123,16 +123,12 @@ module _ (a : Street) (p : Typed) where
   abbrev pub red_tick : ℕ → ℕ
   red_tick i = since (a.head.parts * least_unit) (lead i) (ticks least_grid (after p i) +ℤ lead 1)
 
-  abbrev pub frame : TimingRecord
-  frame = record {
+  abbrev pub least_base : BaseRecord
+  least_base = record {
     grid = least_grid;
     unit = least_unit;
     patterns = p.patterns;
     reds = map pos (numbered (count a) 1 red_tick);
     run_out = runs Outbound;
     run_in = runs Inbound;
-    first_out = pos 0;
-    first_in = pos 0;
-    band_out = 0;
-    band_in = 0;
   }

@@ -143,7 +143,7 @@ fn check_runs(artery: &Artery, plan: &TypedPlan, grid: u128, dir: Dir) -> Result
     Ok(())
 }
 
-/// Refuses the first number of the least timing that can't be held.
+/// Refuses the first number of the least base that can't be held.
 fn check_sizes(artery: &Artery, plan: &TypedPlan, grid: u128) -> Result<(), u128>
     requires counts { HasCounts artery.now plan.now }
     requires grid { grid ≡ least_grid artery.now plan.now }
@@ -159,7 +159,7 @@ fn check_sizes(artery: &Artery, plan: &TypedPlan, grid: u128) -> Result<(), u128
     Ok(())
 }
 
-/// The ticks a second of the least timing, or the first of its numbers that a timing can't hold.
+/// The ticks a second of the least base, or the first of its numbers that a timing can't hold.
 pub fn fitting_grid(artery: &Artery, plan: &TypedPlan) -> Result<u128, u128>
     requires { HasCounts artery.now plan.now }
     ensures value { IfOk result (λ n. n ≡ least_grid artery.now plan.now) }

@@ -9,8 +9,8 @@
 ghost use Rattle.typed_plan.specs.Ends.{OneTiming, SpeedsComeBack};
 
 mod counts;
-mod frame;
 mod grid;
+mod least;
 mod seconds;
 mod times;
 mod timing;

@@ -1,7 +1,7 @@
 //! The times of a plan that have to be whole ticks.
 
-ghost use Rattle.std.specs.Prelude.{◌≡◌, ◌-◌, ◌*◌, ◌<◌, ◌≤◌, unsigned_abs};
-ghost use Rattle.progression.specs.Street.{count};
+ghost use Rattle.std.specs.Prelude.{◌≡◌, ◌-◌, ◌*◌, ◌≤◌, unsigned_abs};
+ghost use Rattle.progression.specs.Street.{count, HasLink, HasSignal};
 ghost use Rattle.typed_plan.specs.{Asked.{after, travel}, Counts.{HasCounts}, Grid.{time, how_many}};
 
 use crate::seconds::{at_speed, later_by, over_whole};
@@ -23,8 +23,7 @@ pub enum Times {
 /// How much later than signal 1's moment that of a signal comes, in seconds.
 fn after(artery: &Artery, plan: &TypedPlan, signal: u32) -> Frac
     requires counts { HasCounts artery.now plan.now }
-    requires first { 1 ≤ signal }
-    requires last { signal ≤ count artery.now }
+    requires signal { HasSignal artery.now signal }
     ensures value { result ≡ after plan.now signal }
     ensures num { unsigned_abs result.num ≤ 540000000 * result.den }
 {
@@ -35,8 +34,7 @@ fn after(artery: &Artery, plan: &TypedPlan, signal: u32) -> Frac
 /// The time on a link, in seconds.
 fn travel(artery: &Artery, plan: &TypedPlan, dir: Dir, link: u32) -> Frac
     requires counts { HasCounts artery.now plan.now }
-    requires first { 1 ≤ link }
-    requires last { link < count artery.now }
+    requires link { HasLink artery.now link }
     ensures value { result ≡ travel artery.now plan.now dir link }
     ensures num { unsigned_abs result.num ≤ 540000000 * result.den }
 {

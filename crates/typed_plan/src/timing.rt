@@ -1,19 +1,20 @@
 //! From a plan to its timing.
 
 ghost use Rattle.std.specs.Prelude.{◌≡◌, ◌<◌, ◌≤◌, ◌^◌, None, IfOk, IfErr};
-ghost use Rattle.progression.specs.TimingRecord.{cycle};
+ghost use Rattle.progression.specs.BaseRecord.{cycle};
+ghost use Rattle.progression.specs.TimingRecord.{base};
 ghost use Rattle.typed_plan.specs.{Counts.{HasCounts, count_fault}, Grid.{least_grid, too_fine}};
 ghost use Rattle.typed_plan.specs.Ends.{AreCut, ArePut, pair_or_none, paired, IsBelow, IsTimingOf, Refuses};
 
 use crate::counts::check_counts;
-use crate::frame::frame;
 use crate::grid::fitting_grid;
+use crate::least::least_base;
 use artery_model::{Artery, Dir, Flaw, Refusal};
-use band_measure::{Bands, BothPairs, Widest, cut, widest};
+use band_measure::{Bands, BothPairs, Widest, cut, widest_on};
 use description_reader::TypedPlan;
 use narrow_fraction::Memory;
 use std::alloc::Global;
-use time_space::{Timing, cycle};
+use time_space::{Base, Timing};
 
 /// Why a plan has no timing on an artery.
 #[derive(Drop)]
@@ -111,42 +112,42 @@ fn put_pairs(artery: &Artery, cycle: u128, found: Found) -> Found
     }
 }
 
-/// The timing with the pairs that are put of the widest ones.
-fn with_pairs(artery: &Artery, frame: Timing, found: Found) -> Measured
-    requires cycle { cycle artery.now frame < 2 ^ 80 }
-    requires outbound { IsBelow (cycle artery.now frame) found.outbound }
-    requires inbound { IsBelow (cycle artery.now frame) found.inbound }
+/// The timing of a base with the pairs that are put of the widest ones.
+fn with_pairs(artery: &Artery, on: Base, found: Found) -> Measured
+    requires cycle { cycle artery.now on < 2 ^ 80 }
+    requires outbound { IsBelow (cycle artery.now on) found.outbound }
+    requires inbound { IsBelow (cycle artery.now on) found.inbound }
     ensures put { ArePut artery.now found.outbound found.inbound result.outbound result.inbound }
-    ensures timing { result.timing ≡ paired frame (pair_or_none result.outbound) (pair_or_none result.inbound) }
-    ensures outbound { IsBelow (cycle artery.now frame) result.outbound }
-    ensures inbound { IsBelow (cycle artery.now frame) result.inbound }
+    ensures timing { result.timing ≡ paired on (pair_or_none result.outbound) (pair_or_none result.inbound) }
+    ensures outbound { IsBelow (cycle artery.now on) result.outbound }
+    ensures inbound { IsBelow (cycle artery.now on) result.inbound }
 {
-    let put = put_pairs(artery, cycle(artery, &frame), found);
+    let put = put_pairs(artery, on.cycle(artery), found);
     let there = pair_or_none(put.outbound);
     let back = pair_or_none(put.inbound);
     Measured {
-        timing: frame.with_bands(there.first, there.band, back.first, back.band),
+        timing: on.banded(there.first, there.band, back.first, back.band),
         outbound: put.outbound,
         inbound: put.inbound,
     }
 }
 
-/// The least timing of a plan that fits, with its bands.
+/// The least base of a plan that fits, with its bands.
 fn timed(alloc: Global, artery: &Artery, plan: &TypedPlan, grid: u128) -> Result<Measured, Memory>
     requires counts { HasCounts artery.now plan.now }
     requires fault { count_fault artery.now plan.now ≡ None }
     requires grid { grid ≡ least_grid artery.now plan.now }
     requires fine { too_fine artery.now plan.now ≡ None }
     ensures timing { IfOk result (λ m. IsTimingOf artery.now plan.now m) }
-    ensures outbound { IfOk result (λ m. IsBelow (cycle artery.now m.timing) m.outbound) }
-    ensures inbound { IfOk result (λ m. IsBelow (cycle artery.now m.timing) m.inbound) }
+    ensures outbound { IfOk result (λ m. IsBelow (cycle artery.now (base m.timing)) m.outbound) }
+    ensures inbound { IfOk result (λ m. IsBelow (cycle artery.now (base m.timing)) m.inbound) }
 {
     artery.known_valid();
     plan.known_within();
-    let frame = frame(alloc, artery, plan, grid)?;
-    let outbound = widest(artery, &frame, Dir::Outbound);
-    let inbound = widest(artery, &frame, Dir::Inbound);
-    Ok(with_pairs(artery, frame, Found { outbound, inbound }))
+    let on = least_base(alloc, artery, plan, grid)?;
+    let outbound = widest_on(artery, &on, Dir::Outbound);
+    let inbound = widest_on(artery, &on, Dir::Inbound);
+    Ok(with_pairs(artery, on, Found { outbound, inbound }))
 }
 
 /// The timing of a plan on an artery.
@@ -158,8 +159,8 @@ fn timed(alloc: Global, artery: &Artery, plan: &TypedPlan, grid: u128) -> Result
 /// keys, then `TooFine`; `Memory` may come in place of any answer.
 pub fn timing_of(alloc: Global, artery: &Artery, plan: &TypedPlan) -> Result<Measured, TypedFault>
     ensures timing { IfOk result (λ m. IsTimingOf artery.now plan.now m) }
-    ensures outbound { IfOk result (λ m. IsBelow (cycle artery.now m.timing) m.outbound) }
-    ensures inbound { IfOk result (λ m. IsBelow (cycle artery.now m.timing) m.inbound) }
+    ensures outbound { IfOk result (λ m. IsBelow (cycle artery.now (base m.timing)) m.outbound) }
+    ensures inbound { IfOk result (λ m. IsBelow (cycle artery.now (base m.timing)) m.inbound) }
     ensures faults { IfErr result (λ f. Refuses artery.now plan.now f) }
 {
     artery.known_valid();

@@ -6,9 +6,8 @@ use Rattle.std.proofs.lemmas.List.{ext_get_or, append-nil}
 use Rattle.std.proofs.lemmas.List.Elements.{All-append, All-push, All-contains}
 use Rattle.std.proofs.lemmas.List.FromFn.{map-range_with_len_more}
 use Rattle.progression.specs.Street.{Street}
-use Rattle.progression.specs.TimingRecord.{TimingRecord}
+use Rattle.progression.specs.BaseRecord.{BaseRecord}
 use Rattle.artery_model.specs.Valid.{IsValid}
-use Rattle.band_measure.proofs.Lines.{own_pair}
 use Rattle.second_plan.specs.declared.seconds.Rounded.{Rounded}
 use Rattle.whole_offsets.proofs.Same.{no_better_plan}
 use Rattle.whole_offsets.proofs.Scores.{better_trans, better_over}
@@ -41,7 +40,7 @@ ok_map P Q (Err e) f h = tt
 abbrev pub before : Reach → ℕ → ℕ → ℕ → List Move
 before reach step n start = map (λ from. record { start = from; stop = stop_of reach from n; step = step }) (range_with_len 1 (start - 1))
 
-module _ (a : Street) (t : TimingRecord) (there : Tried) where
+module _ (a : Street) (t : BaseRecord) (there : Tried) where
   abbrev Has : (Score → Type 0) → Move → Type 0
   Has = HasPlan a t there
 
@@ -132,5 +131,5 @@ module _ (a : Street) (t : TimingRecord) (there : Tried) where
   none_better valid was h other q (m, (is, moved)) p =
       let (x, (after, n)) = All-contains (Bears there.score) (moves there.rounded.seconds (length there.rounded.offsets.items)) m h is in
       let same : x.rounded.offsets.items ≡ other = one_moved there.rounded.seconds there.rounded.offsets.items m x.rounded.offsets.items other after.moved moved in
-      no_better_plan a valid own_pair t there.rounded.seconds there.rounded.offsets.items other q x.timing there.timing x.score there.score p
+      no_better_plan a valid t there.rounded.seconds there.rounded.offsets.items other q x.timing there.timing x.score there.score p
       (subst (λ l. IsPlanOf a t there.rounded.seconds l x.timing) same after.tried.plan) was.plan after.tried.score_is was.score_is n

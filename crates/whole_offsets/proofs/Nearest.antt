@@ -1,12 +1,12 @@
--- The first offset is 0: so of those that are nearest to a timing's, and after every move.
-use Rattle.std.proofs.Common.{◌≡◌, ℕ, zero, suc, pos, ◌-ℤ◌, ◌+◌, ◌-◌, ◌*◌, ◌%◌, ◌<◌, ◌≤◌, nat_le, Bool, true, false, All, List, slice_index, ◌∙◌, ap, refl, arith, mul-pos}
+-- The first offset is 0: so of those that are nearest to a base's, and after every move.
+use Rattle.std.proofs.Common.{◌≡◌, ℕ, zero, suc, pos, ◌-ℤ◌, ◌+◌, ◌*◌, ◌%◌, ◌<◌, ◌≤◌, nat_le, Bool, true, false, All, List, slice_index, ◌∙◌, ap, refl, arith, mul-pos}
 use Rattle.std.specs.Prelude.{◌&&◌, nat_lt, if◌then◌else◌}
 use Rattle.std.proofs.Math.Nat.{zero-mod}
 use Rattle.std.proofs.lemmas.Bool.{lt-leb}
 use Rattle.std.proofs.lemmas.Int.{ints}
 use Rattle.progression.specs.Street.{Street}
-use Rattle.progression.specs.TimingRecord.{TimingRecord, cycle, common_red}
-use Rattle.progression.specs.Good.{Good}
+use Rattle.progression.specs.BaseRecord.{BaseRecord, cycle, common_red}
+use Rattle.progression.specs.Good.{IsBase}
 use Rattle.progression.proofs.Remainders.{mod_unique}
 use Rattle.artery_model.specs.Valid.{IsValid}
 use Rattle.second_plan.specs.Nearest.{IsNearest, AnyNumber}
@@ -24,9 +24,9 @@ nearest_nothing d k n (suc r) above e h =
     let some : 0 < suc r * d = mul-pos (omega arith) above in
     absurd (omega (arith, none, near, some))
 
-module _ (a : Street) (t : TimingRecord) (k : ℕ) (offsets : List ℕ) (valid : IsValid a) (good : Good a t) (h : AreOffsets a t k offsets) where
+module _ (a : Street) (t : BaseRecord) (k : ℕ) (offsets : List ℕ) (valid : IsValid a) (base : IsBase a t) (h : AreOffsets a t k offsets) where
   cycle_above : 0 < cycle a t
-  cycle_above = let unit = good.base.plan.unit in let parts = valid.least_parts in mul-pos (omega (arith, parts)) (omega (arith, unit))
+  cycle_above = let unit = base.formed.unit in let parts = valid.least_parts in mul-pos (omega (arith, parts)) (omega (arith, unit))
 
   first_after : red_after a t 1 ≡ 0
   first_after = mod_unique (common_red t 1 -ℤ common_red t 1) (pos 0) (cycle a t) 0 (omega (arith, ints)) cycle_above

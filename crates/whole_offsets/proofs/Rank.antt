@@ -8,7 +8,8 @@ use Rattle.rational_theory.proofs.Order.{over_≤ℚ, <ℚ_not-≤ℚ, ≤ℚ_re
 use Rattle.rational_theory.proofs.Arithmetic.{same_ratio, over_ratio, sum_ratio, product_ratio, whole_ratio}
 use Rattle.progression.specs.Street.{Street, least_band}
 use Rattle.progression.specs.Speeds.{number}
-use Rattle.progression.specs.TimingRecord.{TimingRecord, cycle}
+use Rattle.progression.specs.TimingRecord.{TimingRecord, base}
+use Rattle.progression.specs.BaseRecord.{cycle}
 use Rattle.progression.specs.Best.{weighted_band}
 use Rattle.progression.specs.declared.parts.Dir.{Dir}
 use Rattle.progression.specs.declared.parts.Dir.TheVariants.{Outbound, Inbound}
@@ -80,27 +81,27 @@ module _ (a : Street) (valid : IsValid a) where
   least_sizes Outbound = (valid.least_out.num, valid.least_out.den)
   least_sizes Inbound = (valid.least_in.num, valid.least_in.den)
 
-  weight_at : (p : TimingRecord) → 0 < cycle a p → over (pos (weight_of a p)) (a.head.ratio.den * cycle a p) ≡ weighted_band a p
-  weight_at p some = weighted a.head.ratio (unsigned_abs a.head.ratio.num) a.head.ratio.den p.band_out p.band_in (cycle a p)
+  weight_at : (p : TimingRecord) → 0 < cycle a (base p) → over (pos (weight_of a p)) (a.head.ratio.den * cycle a (base p)) ≡ weighted_band a p
+  weight_at p some = weighted a.head.ratio (unsigned_abs a.head.ratio.num) a.head.ratio.den p.band_out p.band_in (cycle a (base p))
       (let l = valid.ratio.least in omega (arith, ints, l)) refl some
 
   -- wider bands weigh more
-  pub weighs_most : (p q : TimingRecord) → 0 < cycle a q → cycle a p ≡ cycle a q → p.band_out ≤ q.band_out → p.band_in ≤ q.band_in → weighted_band a p ≤ℚ weighted_band a q
+  pub weighs_most : (p q : TimingRecord) → 0 < cycle a (base q) → cycle a (base p) ≡ cycle a (base q) → p.band_out ≤ q.band_out → p.band_in ≤ q.band_in → weighted_band a p ≤ℚ weighted_band a q
   weighs_most p q some same o i =
       let d = mul-pos a.head.ratio.positive some in
-      let some_p : 0 < cycle a p = omega arith in
+      let some_p : 0 < cycle a (base p) = omega arith in
       let f = mul-le-mul_left a.head.ratio.den o in
       let g = mul-le-mul_left (unsigned_abs a.head.ratio.num) i in
       let l : weight_of a p ≤ weight_of a q = omega (arith, f, g) in
-      let m : weight_of a p * (a.head.ratio.den * cycle a q) ≤ weight_of a q * (a.head.ratio.den * cycle a q) = mul-le-mul_right (a.head.ratio.den * cycle a q) l in
-      let w : over (pos (weight_of a p)) (a.head.ratio.den * cycle a q) ≤ℚ over (pos (weight_of a q)) (a.head.ratio.den * cycle a q) = (over_≤ℚ _ _ _ _ d d).1 (omega (arith, ints, m)) in
+      let m : weight_of a p * (a.head.ratio.den * cycle a (base q)) ≤ weight_of a q * (a.head.ratio.den * cycle a (base q)) = mul-le-mul_right (a.head.ratio.den * cycle a (base q)) l in
+      let w : over (pos (weight_of a p)) (a.head.ratio.den * cycle a (base q)) ≤ℚ over (pos (weight_of a q)) (a.head.ratio.den * cycle a (base q)) = (over_≤ℚ _ _ _ _ d d).1 (omega (arith, ints, m)) in
       subst (λ z. z ≤ℚ weighted_band a q) (ap (λ c. over (pos (weight_of a p)) (a.head.ratio.den * c)) (sym same) ∙ weight_at p some_p)
-      (subst (λ z. over (pos (weight_of a p)) (a.head.ratio.den * cycle a q) ≤ℚ z) (weight_at q some) w)
+      (subst (λ z. over (pos (weight_of a p)) (a.head.ratio.den * cycle a (base q)) ≤ℚ z) (weight_at q some) w)
 
   module _ (p : TimingRecord) (small : IsSmall a p) where
     missed_small : (d : Dir) → missed a p d ≤ 100000 * 2 ^ 92
-    missed_small d = let s = least_sizes d in let c = small.cycle in let below : cycle a p ≤ 2 ^ 92 = omega (arith, c) in
-        let m : unsigned_abs (least_band a d).num * cycle a p ≤ 100000 * 2 ^ 92 = mul-le s.0 below in omega (arith, m)
+    missed_small d = let s = least_sizes d in let c = small.cycle in let below : cycle a (base p) ≤ 2 ^ 92 = omega (arith, c) in
+        let m : unsigned_abs (least_band a d).num * cycle a (base p) ≤ 100000 * 2 ^ 92 = mul-le s.0 below in omega (arith, m)
 
     misses_small : misses_of a p < 2 ^ 120
     misses_small =
@@ -114,22 +115,22 @@ module _ (a : Street) (valid : IsValid a) where
         let f : a.head.ratio.den * p.band_out ≤ 1000 * 2 ^ 92 = mul-le valid.ratio.den out in
         let g : unsigned_abs a.head.ratio.num * p.band_in ≤ 100000 * 2 ^ 92 = mul-le valid.ratio.num back in omega (arith, f, g)
 
-    pub misses_are : over (pos (misses_of a p)) ((least_band a Outbound).den * (least_band a Inbound).den * cycle a p) ≡ miss a p Outbound +ℚ miss a p Inbound
-    misses_are = sum_of_misses (missed a p Outbound) (missed a p Inbound) (least_band a Outbound).den (least_band a Inbound).den (cycle a p)
+    pub misses_are : over (pos (misses_of a p)) ((least_band a Outbound).den * (least_band a Inbound).den * cycle a (base p)) ≡ miss a p Outbound +ℚ miss a p Inbound
+    misses_are = sum_of_misses (missed a p Outbound) (missed a p Inbound) (least_band a Outbound).den (least_band a Inbound).den (cycle a (base p))
         (least_band a Outbound).positive (least_band a Inbound).positive small.some
 
-    weight_is : over (pos (weight_of a p)) (a.head.ratio.den * cycle a p) ≡ weighted_band a p
+    weight_is : over (pos (weight_of a p)) (a.head.ratio.den * cycle a (base p)) ≡ weighted_band a p
     weight_is = weight_at p small.some
 
-    denominator : 0 < (least_band a Outbound).den * (least_band a Inbound).den * cycle a p
+    denominator : 0 < (least_band a Outbound).den * (least_band a Inbound).den * cycle a (base p)
     denominator = mul-pos (mul-pos (least_band a Outbound).positive (least_band a Inbound).positive) small.some
 
-  module _ (p q : TimingRecord) (ps : IsSmall a p) (qs : IsSmall a q) (same : cycle a p ≡ cycle a q) where
+  module _ (p q : TimingRecord) (ps : IsSmall a p) (qs : IsSmall a q) (same : cycle a (base p) ≡ cycle a (base q)) where
     -- the misses of both over one denominator
-    misses_here : over (pos (misses_of a p)) ((least_band a Outbound).den * (least_band a Inbound).den * cycle a q) ≡ miss a p Outbound +ℚ miss a p Inbound
+    misses_here : over (pos (misses_of a p)) ((least_band a Outbound).den * (least_band a Inbound).den * cycle a (base q)) ≡ miss a p Outbound +ℚ miss a p Inbound
     misses_here = ap (λ c. over (pos (misses_of a p)) ((least_band a Outbound).den * (least_band a Inbound).den * c)) (sym same) ∙ misses_are p ps
 
-    weight_here : over (pos (weight_of a p)) (a.head.ratio.den * cycle a q) ≡ weighted_band a p
+    weight_here : over (pos (weight_of a p)) (a.head.ratio.den * cycle a (base q)) ≡ weighted_band a p
     weight_here = ap (λ c. over (pos (weight_of a p)) (a.head.ratio.den * c)) (sym same) ∙ weight_is p ps
 
     less_missed : (x y : ℚ) → x ≡ miss a p Outbound +ℚ miss a p Inbound → y ≡ miss a q Outbound +ℚ miss a q Inbound → x <ℚ y → misses_of a p < misses_of a q

@@ -12,7 +12,7 @@ use Rattle.rational_theory.proofs.Shares.{≤ℚ_cancel}
 use Rattle.rational_theory.proofs.Multiples.{IsMultiple}
 use Rattle.progression.specs.Street.{Street, count, HasLink, no_link, distance, speed}
 use Rattle.progression.specs.Speeds.{number, seconds, run_low, run_high}
-use Rattle.progression.specs.TimingRecord.{TimingRecord, run}
+use Rattle.progression.specs.BaseRecord.{BaseRecord, run}
 use Rattle.progression.specs.Good.{IsBase}
 use Rattle.progression.specs.declared.parts.Units.{Units}
 use Rattle.progression.specs.declared.parts.Units.TheVariants.{Metric, English}
@@ -57,9 +57,9 @@ module _ (a : Street) (valid : IsValid a) (i : ℕ) (has : HasLink a i) where
   high_above Inbound = let l = valid.each_link (i - 1) no_link inside in seconds_above a.head.units (distance a Inbound i) (speed a Inbound i).least l.least_in l.speed_in.least
 
 -- where a timing keeps the limits of speed the least run isn't above the greatest
-pub runs_ordered : (a : Street) (t : TimingRecord) → IsBase a t → (d : Dir) (i : ℕ) → HasLink a i → run_low a d i ≤ℚ run_high a d i
+pub runs_ordered : (a : Street) (t : BaseRecord) → IsBase a t → (d : Dir) (i : ℕ) → HasLink a i → run_low a d i ≤ℚ run_high a d i
 runs_ordered a t base d i has =
-    let g = base.plan.grid in
+    let g = base.formed.grid in
     ≤ℚ_cancel (run_low a d i) (run_high a d i) (number t.grid) (whole-≤ℤ (pos 0) (pos t.grid) (omega (arith, ints)))
     (whole_not_zero (pos t.grid) (λ e. absurd (omega (arith, ints, e, g))))
     (≤ℚ_trans _ _ _ (base.fast d i has) (base.slow d i has))
@@ -133,7 +133,7 @@ module _ (low high : ℚ) (above_low : pos 1 ≤ℤ low.num) (above_high : pos 1
             (≤ℚ-*ℚ low high (number (by * low.den)) o (whole-≤ℤ (pos 0) (pos (by * low.den)) (omega (arith, ints))));
       }
 
-module _ (a : Street) (t : TimingRecord) (valid : IsValid a) (base : IsBase a t) (k : ℕ) (small : AreSmall a (a.head.parts * multiple a) k) where
+module _ (a : Street) (t : BaseRecord) (valid : IsValid a) (base : IsBase a t) (k : ℕ) (small : AreSmall a (a.head.parts * multiple a) k) where
   abbrev grid : ℕ
   grid = a.head.parts * multiple a
 
@@ -169,11 +169,11 @@ module _ (a : Street) (t : TimingRecord) (valid : IsValid a) (base : IsBase a t)
   }
 
 -- ---- runs within the limits
-runs_at : (u : TimingRecord) (d : Dir) (i : ℕ) → run u d i ≡ slice_index (runs_of u d) (i - 1)
+runs_at : (u : BaseRecord) (d : Dir) (i : ℕ) → run u d i ≡ slice_index (runs_of u d) (i - 1)
 runs_at u Outbound i = refl
 runs_at u Inbound i = refl
 
-own_runs : (d : Dir) (f : TimingRecord) (runs : List ℕ) → runs_of (with_runs runs runs f) d ≡ runs
+own_runs : (d : Dir) (f : BaseRecord) (runs : List ℕ) → runs_of (with_runs runs runs f) d ≡ runs
 own_runs Outbound f runs = refl
 own_runs Inbound f runs = refl
 
@@ -185,7 +185,7 @@ index_below : (d : Dir) (n j : ℕ) → j + 1 < n → leg d n j - 1 < n - 1
 index_below Outbound n j h = omega arith
 index_below Inbound n j h = omega arith
 
-module _ (a : Street) (f : TimingRecord) (d : Dir) (runs : List ℕ) where
+module _ (a : Street) (f : BaseRecord) (d : Dir) (runs : List ℕ) where
   -- the least runs keep the limits
   pub least_kept : HasRuns a f.grid → AreLeast a f.grid d runs (count a - 1) → AreKept a f d runs
   least_kept h l out back e = record {

@@ -1,16 +1,17 @@
 -- Plans of the same offsets are judged alike.
-use Rattle.std.proofs.Common.{◌≡◌, ℕ, ℤ, pos, ◌*◌, ◌-◌, ◌≤◌, List, sym, ◌∙◌, ap, ap₂, subst, arith, inl, inr, unsigned_abs}
+use Rattle.std.proofs.Common.{◌≡◌, ℕ, pos, ◌*◌, ◌-◌, ◌≤◌, List, sym, ◌∙◌, ap, ap₂, subst, arith, inl, inr, unsigned_abs}
 use Rattle.std.proofs.lemmas.Int.{ints}
 use Rattle.rational_theory.specs.Rational.{◌+ℚ◌, ◌*ℚ◌, ◌/ℚ◌}
 use Rattle.progression.specs.Street.{Street, least_band}
 use Rattle.progression.specs.Speeds.{number}
-use Rattle.progression.specs.TimingRecord.{TimingRecord, cycle, first, band}
+use Rattle.progression.specs.TimingRecord.{TimingRecord, base, first, band}
+use Rattle.progression.specs.BaseRecord.{BaseRecord, cycle}
 use Rattle.progression.specs.Lines.{IsGreenWay}
 use Rattle.progression.specs.Best.{weighted_band}
+use Rattle.free_runs.specs.Free.{with_runs}
 use Rattle.progression.specs.declared.parts.Dir.{Dir}
 use Rattle.progression.specs.declared.parts.Dir.TheVariants.{Outbound, Inbound}
 use Rattle.artery_model.specs.Valid.{IsValid}
-use Rattle.band_measure.specs.Pairs.{OwnPair, with_pair}
 use Rattle.band_measure.specs.declared.bands.Bands.{Bands}
 use Rattle.band_measure.specs.Cut.{IsCut}
 use Rattle.band_measure.proofs.Cuts.{one_cut_of}
@@ -18,7 +19,6 @@ use Rattle.whole_offsets.specs.Offsets.{IsOnOffsets, IsRival, IsWidth, IsPlanOf}
 use Rattle.whole_offsets.specs.Score.{IsLack, AreWithoutLine, miss, IsScore, IsBetter, IsBetterPlan}
 use Rattle.whole_offsets.specs.declared.score.Score.{Score}
 use Rattle.whole_offsets.proofs.Cuts.{cut_within}
-use Rattle.whole_offsets.proofs.Rivals.{pairs_kept, band_of_pair}
 use Rattle.whole_offsets.proofs.Widths.{green_of}
 
 -- two scores with the same numbers
@@ -33,45 +33,33 @@ alike_is s r h = λ i. record { lineless = h.lineless_same i; misses = h.misses_
 abbrev bands_of : TimingRecord → Bands
 bands_of p = record { outbound = p.band_out; inbound = p.band_in }
 
-module _ (a : Street) (valid : IsValid a) (own : OwnPair) (t : TimingRecord) (k : ℕ) (offsets : List ℕ) where
+module _ (a : Street) (valid : IsValid a) (t : BaseRecord) (k : ℕ) (offsets : List ℕ) where
   ratio_is : pos (unsigned_abs a.head.ratio.num) ≡ a.head.ratio.num
   ratio_is = let l = valid.ratio.least in omega (arith, ints, l)
 
   module _ (p q : TimingRecord) (ps : IsPlanOf a t k offsets p) (qs : IsPlanOf a t k offsets q) where
-    on : IsOnOffsets q p
-    on = record { grid = ps.grid ∙ sym qs.grid; unit = ps.unit ∙ sym qs.unit; patterns = ps.patterns ∙ sym qs.patterns; reds = ps.reds ∙ sym qs.reds }
+    on : IsOnOffsets (base q) (base p)
+    on = ps.on ∙ sym (ap (with_runs p.run_out p.run_in) qs.on)
 
-    rival : (d : Dir) → IsRival a q d p
-    rival d = record {
-      offsets = on;
-      speeds = ps.speeds d;
-      pace = λ l. record { out = (ps.pace l).out ∙ sym (qs.pace l).out; back = (ps.pace l).back ∙ sym (qs.pace l).back };
-    }
+    rival : (d : Dir) → IsRival a (base q) d (base p)
+    rival d = record { offsets = on; speeds = ps.speeds d; pace = λ l. ps.pace l ∙ sym (qs.pace l) }
 
-    -- also with another pair
-    rival_pair : (d : Dir) (x : ℤ) (b : ℕ) → IsRival a q d (with_pair x b p)
-    rival_pair d x b = let r = rival d in record {
-      offsets = record { grid = r.offsets.grid; unit = r.offsets.unit; patterns = r.offsets.patterns; reds = r.offsets.reds };
-      speeds = pairs_kept a p x b x b d r.speeds;
-      pace = λ l. record { out = (r.pace l).out; back = (r.pace l).back };
-    }
-
-    no_wider : (d : Dir) (v w : ℕ) → IsWidth a p d v → IsWidth a q d w → v ≤ w
-    no_wider d v w (inl h) (inl g) = subst (λ n. n ≤ w) (band_of_pair p (first p d) v d) (g.widest (with_pair (first p d) v p) (rival_pair d (first p d) v) h.runs)
-    no_wider d v w (inl h) (inr g) = absurd (g.none (with_pair (first p d) v p) (rival_pair d (first p d) v) h.runs)
+    no_wider : (d : Dir) (v w : ℕ) → IsWidth a (base p) d (first p d) v → IsWidth a (base q) d (first q d) w → v ≤ w
+    no_wider d v w (inl h) (inl g) = g.widest (base p) (first p d) v (rival d) h.runs
+    no_wider d v w (inl h) (inr g) = absurd (g.none (base p) (first p d) v (rival d) h.runs)
     no_wider d v w (inr h) g = let e = h.nothing in omega arith
 
     -- where one has a line so has the other
-    green_by : (d : Dir) (w : ℕ) → IsWidth a q d w → band q d ≤ w → IsGreenWay a p d → IsGreenWay a q d
-    green_by d w (inl h) l g = green_of a own q d w h.runs l
-    green_by d w (inr h) l g = absurd (h.none p (rival d) g)
+    green_by : (d : Dir) (w : ℕ) → IsWidth a (base q) d (first q d) w → band q d ≤ w → IsGreenWay a p d → IsGreenWay a q d
+    green_by d w (inl h) l g = green_of a q d w h.runs l
+    green_by d w (inr h) l g = absurd (h.none (base p) (first p d) (band p d) (rival d) g)
 
     green_too : (d : Dir) → IsGreenWay a p d → IsGreenWay a q d
     green_too d = let c = cut_within a (unsigned_abs a.head.ratio.num) ratio_is qs.wide (record { outbound = q.band_out; inbound = q.band_in }) qs.cut in
         elim d as (λ e. IsGreenWay a p e → IsGreenWay a q e) [ Outbound ↦ green_by Outbound qs.wide.outbound qs.outbound c.out | Inbound ↦ green_by Inbound qs.wide.inbound qs.inbound c.back ]
 
   module _ (p q : TimingRecord) (ps : IsPlanOf a t k offsets p) (qs : IsPlanOf a t k offsets q) where
-    same_width : (d : Dir) (v w : ℕ) → IsWidth a p d v → IsWidth a q d w → v ≡ w
+    same_width : (d : Dir) (v w : ℕ) → IsWidth a (base p) d (first p d) v → IsWidth a (base q) d (first q d) w → v ≡ w
     same_width d v w h g = let l = no_wider p q ps qs d v w h g in let m = no_wider q p qs ps d w v g h in omega arith
 
     same_wide : ps.wide ≡ qs.wide
@@ -87,15 +75,15 @@ module _ (a : Street) (valid : IsValid a) (own : OwnPair) (t : TimingRecord) (k 
     band_same Outbound = ap (λ (b : Bands). b.outbound) same_cut
     band_same Inbound = ap (λ (b : Bands). b.inbound) same_cut
 
-    cycle_same : cycle a p ≡ cycle a q
-    cycle_same = ap (λ n. a.head.parts * n) (ps.unit ∙ sym qs.unit)
+    cycle_same : cycle a (base p) ≡ cycle a (base q)
+    cycle_same = ap (cycle a) ps.on ∙ sym (ap (cycle a) qs.on)
 
     miss_same : (d : Dir) → miss a p d ≡ miss a q d
     miss_same d = ap₂ (λ c b. number (unsigned_abs (least_band a d).num * c - b * (least_band a d).den) /ℚ number ((least_band a d).den * c)) cycle_same (band_same d)
 
     weighted_same : weighted_band a p ≡ weighted_band a q
     weighted_same =
-        ap₂ (λ o i. (number o +ℚ a.head.ratio *ℚ number i) /ℚ number (cycle a p)) (band_same Outbound) (band_same Inbound)
+        ap₂ (λ o i. (number o +ℚ a.head.ratio *ℚ number i) /ℚ number (cycle a (base p))) (band_same Outbound) (band_same Inbound)
         ∙ ap (λ c. (number q.band_out +ℚ a.head.ratio *ℚ number q.band_in) /ℚ number c) cycle_same
 
     lack_same : (d : Dir) (m n : ℕ) → IsLack a p d m → IsLack a q d n → m ≡ n
@@ -118,9 +106,9 @@ module _ (a : Street) (valid : IsValid a) (own : OwnPair) (t : TimingRecord) (k 
     })
 
 -- a plan whose score is no better is no better, nor is another of the same offsets
-pub no_better_plan : (a : Street) → IsValid a → OwnPair → (t : TimingRecord) (k : ℕ) (offsets others : List ℕ) (p q r : TimingRecord) (x y : Score)
+pub no_better_plan : (a : Street) → IsValid a → (t : BaseRecord) (k : ℕ) (offsets others : List ℕ) (p q r : TimingRecord) (x y : Score)
     → IsPlanOf a t k others p → IsPlanOf a t k others q → IsPlanOf a t k offsets r → IsScore a q x → IsScore a r y → ¬ IsBetter x y → ¬ IsBetterPlan a p r
-no_better_plan a valid own t k offsets others p q r x y ps qs rs xs ys n b =
-    let e = score_same a valid own t k others p q ps qs b.one x b.one_is xs in
-    let f = score_same a valid own t k offsets r r rs rs b.other y b.other_is ys in
+no_better_plan a valid t k offsets others p q r x y ps qs rs xs ys n b =
+    let e = score_same a valid t k others p q ps qs b.one x b.one_is xs in
+    let f = score_same a valid t k offsets r r rs rs b.other y b.other_is ys in
     n (subst (λ z. IsBetter z y) e (subst (λ z. IsBetter b.one z) f b.better))

@@ -4,7 +4,7 @@ use Rattle.std.specs.Prelude.{Bool, Option, None, Some, if◌then◌else◌}
 use Rattle.std.specs.Option.{option_or}
 use Rattle.std.proofs.lemmas.Bool.{cases_lt}
 use Rattle.progression.specs.Street.{Street, count}
-use Rattle.progression.specs.TimingRecord.{TimingRecord}
+use Rattle.progression.specs.BaseRecord.{BaseRecord}
 use Rattle.progression.specs.Good.{IsBase}
 use Rattle.progression.specs.declared.parts.Dir.{Dir}
 use Rattle.progression.specs.declared.parts.Dir.TheVariants.{Outbound, Inbound}
@@ -90,7 +90,7 @@ pub record IsHeld (a : Street) (k grid unit : ℕ) : Type 0 where
   pub cycle_is : a.head.parts * unit ≡ k * grid
   pub cycle_most : a.head.parts * unit < 2 ^ 80
 
-module _ (a : Street) (t : TimingRecord) (valid : IsValid a) (base : IsBase a t) (k : ℕ) (some : 1 ≤ k) where
+module _ (a : Street) (t : BaseRecord) (valid : IsValid a) (base : IsBase a t) (k : ℕ) (some : 1 ≤ k) where
   free_held : (m : ℕ) → m ≡ multiple a → free_large a (a.head.parts * m) k ≡ None → IsHeld a k (a.head.parts * m) (k * m)
   free_held m e h =
       let f = small_of a (a.head.parts * m) k h in
@@ -117,7 +117,7 @@ module _ (a : Street) (t : TimingRecord) (valid : IsValid a) (base : IsBase a t)
       let g = f.grid in
       let c = f.cycle in
       let parts = valid.least_parts in
-      let ticks = base.plan.grid in
+      let ticks = base.formed.grid in
       let one : 1 * 1 ≤ t.grid * (2 * a.head.parts) = mul-le {a = 1} {b = t.grid} {c = 1} {d = 2 * a.head.parts} ticks (omega arith) in
       let two : 1 * 1 ≤ k * t.grid = mul-le {a = 1} {b = k} {c = 1} {d = t.grid} some ticks in
       let three : 1 * (2 * k * t.grid) ≤ a.head.parts * (2 * k * t.grid) = mul-le {a = 1} {b = a.head.parts} {c = 2 * k * t.grid} {d = 2 * k * t.grid} (omega arith) (omega arith) in

@@ -3,6 +3,6 @@ pub mod Offsets
 pub mod Moves
 pub mod Score
 pub mod Steady
-pub mod Frame
+pub mod Measured
 pub mod Lines
 pub mod Tried

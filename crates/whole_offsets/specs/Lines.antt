@@ -1,10 +1,10 @@
--- What is found in one direction on the offsets of a timing, with free runs.
+-- What is found in one direction on the offsets of a base, with free runs.
 use Rattle.std.specs.Prelude.{◌≡◌, ℕ, ◌+◌, ◌-◌, ◌<◌, ◌≤◌, List, length, slice_index, ℤ, pos, ◌⊎◌}
 use Rattle.progression.specs.Street.{Street, count, HasLink}
-use Rattle.progression.specs.TimingRecord.{TimingRecord, cycle}
+use Rattle.progression.specs.BaseRecord.{BaseRecord, cycle}
 use Rattle.progression.specs.declared.parts.Dir.{Dir}
 use Rattle.progression.specs.declared.parts.Dir.TheVariants.{Outbound, Inbound}
-use Rattle.band_measure.specs.Pairs.{RunsOn}
+use Rattle.progression.specs.Lines.{RunsOn}
 use Rattle.free_band.specs.Cells.{run_of}
 use Rattle.free_band.specs.declared.way.FreeBand.{FreeBand}
 use Rattle.free_runs.specs.Free.{with_runs, KeepsSpeeds, NoneFree}
@@ -30,25 +30,25 @@ pub record AreLeast (a : Street) (grid : ℕ) (d : Dir) (runs : List ℕ) (n : �
   pub long : length runs ≡ n
   pub each : (i : ℕ) → i < n → (most : ℕ) × AreLimits a d grid (i + 1) (slice_index runs i) most
 
-abbrev pub runs_of : TimingRecord → Dir → List ℕ
+abbrev pub runs_of : BaseRecord → Dir → List ℕ
 runs_of t Outbound = t.run_out
 runs_of t Inbound = t.run_in
 
--- the timing with these runs in the direction, whatever runs the other has, keeps the limits of speed
-abbrev pub AreKept : Street → TimingRecord → Dir → List ℕ → Type 0
+-- the base with these runs in the direction, whatever runs the other has, keeps the limits of speed
+abbrev pub AreKept : Street → BaseRecord → Dir → List ℕ → Type 0
 AreKept a t d runs = (out back : List ℕ) → runs_of (with_runs out back t) d ≡ runs → KeepsSpeeds a (with_runs out back t) d
 
 -- its first line has the band, and with no runs within the limits there is a wider one
-pub record HasLine (a : Street) (t : TimingRecord) (d : Dir) (runs : List ℕ) (first band : ℕ) : Type 0 where
+pub record HasLine (a : Street) (t : BaseRecord) (d : Dir) (runs : List ℕ) (first band : ℕ) : Type 0 where
   pub green : (out back : List ℕ) → runs_of (with_runs out back t) d ≡ runs → RunsOn a (with_runs out back t) d (pos first) band
   pub widest : (out back : List ℕ) (x : ℤ) (b : ℕ) → KeepsSpeeds a (with_runs out back t) d → RunsOn a (with_runs out back t) d x b → b ≤ band
 
 -- no line passes: the band is 0
-pub record LacksLine (a : Street) (t : TimingRecord) (d : Dir) (band : ℕ) : Type 0 where
+pub record LacksLine (a : Street) (t : BaseRecord) (d : Dir) (band : ℕ) : Type 0 where
   pub none : NoneFree a t d
   pub nothing : band ≡ 0
 
-pub record IsDirectionBand (a : Street) (t : TimingRecord) (d : Dir) (b : DirectionBand) : Type 0 where
+pub record IsDirectionBand (a : Street) (t : BaseRecord) (d : Dir) (b : DirectionBand) : Type 0 where
   pub long : length b.runs.items + 1 ≡ count a
   pub kept : AreKept a t d b.runs.items
   pub first_below : b.pair.first < cycle a t

@@ -5,15 +5,15 @@ use Rattle.std.specs.Option.{option_or}
 use Rattle.rational_theory.specs.Rational.{◌*ℚ◌}
 use Rattle.rational_theory.specs.Gcd.{lcm}
 use Rattle.progression.specs.Street.{Street, count}
+use Rattle.progression.specs.BaseRecord.{BaseRecord}
 use Rattle.progression.specs.Speeds.{number, run_low, run_high}
-use Rattle.progression.specs.TimingRecord.{TimingRecord}
 use Rattle.progression.specs.declared.parts.Link.{Link}
 use Rattle.progression.specs.declared.parts.Dir.{Dir}
 use Rattle.progression.specs.declared.parts.Dir.TheVariants.{Outbound, Inbound}
 use Rattle.band_measure.specs.Cut.{whole_part}
 use Rattle.second_plan.specs.Grid.{plan_grid, plan_unit, too_fine}
 
--- Some link has limits of the change of pace. They tie neighbouring runs, so that there runs stay those of the timing.
+-- Some link has limits of the change of pace. They tie neighbouring runs, so that there runs stay those of the base.
 abbrev pub limits_pace : Street → Bool
 limits_pace a = list_any (λ (l : Link). is_some l.change_out || is_some l.change_in) a.links
 
@@ -45,12 +45,12 @@ grown a d m (suc n) = let before = grown a d m n in if is_large (a.head.parts * 
 abbrev pub multiple : Street → ℕ
 multiple a = grown a Inbound (grown a Outbound least_multiple (count a - 1)) (count a - 1)
 
--- ---- the ticks in a second and in a part of the cycle; where runs are the timing's on its grid, made finer
-abbrev pub whole_grid : Street → TimingRecord → ℕ
-whole_grid a t = if limits_pace a then plan_grid a t else a.head.parts * multiple a
+-- ---- the ticks in a second and in a part of the cycle; where runs are those of the base on its grid, made finer
+abbrev pub whole_grid : Street → BaseRecord → ℕ
+whole_grid a b = if limits_pace a then plan_grid a b else a.head.parts * multiple a
 
-abbrev pub whole_unit : Street → TimingRecord → ℕ → ℕ
-whole_unit a t k = if limits_pace a then plan_unit t k else k * multiple a
+abbrev pub whole_unit : Street → BaseRecord → ℕ → ℕ
+whole_unit a b k = if limits_pace a then plan_unit b k else k * multiple a
 
 -- ---- numbers that no timing holds
 abbrev pub large : ℕ → Option ℕ
@@ -65,13 +65,13 @@ abbrev pub free_large : Street → ℕ → ℕ → Option ℕ
 free_large a grid k = let n = count a - 1 in
     option_or (large grid) (option_or (option_or (large_run a Outbound grid n) (large_run a Inbound grid n)) (large (grid * k)))
 
-abbrev pub too_large : Street → TimingRecord → ℕ → Option ℕ
-too_large a t k = if limits_pace a then too_fine a t k else free_large a (a.head.parts * multiple a) k
+abbrev pub too_large : Street → BaseRecord → ℕ → Option ℕ
+too_large a b k = if limits_pace a then too_fine a b k else free_large a (a.head.parts * multiple a) k
 
 -- the scale of a plan whose numbers timings hold
-pub record IsScale (a : Street) (t : TimingRecord) (k grid unit : ℕ) : Type 0 where
+pub record IsScale (a : Street) (b : BaseRecord) (k grid unit : ℕ) : Type 0 where
   pub some : 1 ≤ k
   pub small : k ≤ 3600
-  pub grid_is : grid ≡ whole_grid a t
-  pub unit_is : unit ≡ whole_unit a t k
-  pub fits : too_large a t k ≡ None
+  pub grid_is : grid ≡ whole_grid a b
+  pub unit_is : unit ≡ whole_unit a b k
+  pub fits : too_large a b k ≡ None

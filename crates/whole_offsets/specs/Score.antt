@@ -3,7 +3,8 @@ use Rattle.std.specs.Prelude.{◌≡◌, ℕ, ◌+◌, ◌-◌, ◌*◌, ◌<◌
 use Rattle.rational_theory.specs.Rational.{ℚ, ◌+ℚ◌, ◌/ℚ◌, ◌<ℚ◌}
 use Rattle.progression.specs.Street.{Street, least_band}
 use Rattle.progression.specs.Speeds.{number}
-use Rattle.progression.specs.TimingRecord.{TimingRecord, cycle, band}
+use Rattle.progression.specs.TimingRecord.{TimingRecord, base, band}
+use Rattle.progression.specs.BaseRecord.{cycle}
 use Rattle.progression.specs.Lines.{IsGreenWay}
 use Rattle.progression.specs.Best.{weighted_band}
 use Rattle.progression.specs.declared.parts.Dir.{Dir}
@@ -26,11 +27,11 @@ pub record AreWithoutLine (a : Street) (p : TimingRecord) (n : ℕ) : Type 0 whe
 -- by how much a band is narrower than it has to be: that many ticks over the denominator of its least width. Where it is no narrower the
 -- difference of whole numbers is 0.
 abbrev pub missed : Street → TimingRecord → Dir → ℕ
-missed a p d = let least = least_band a d in unsigned_abs least.num * cycle a p - band p d * least.den
+missed a p d = let least = least_band a d in unsigned_abs least.num * cycle a (base p) - band p d * least.den
 
 -- as a part of the cycle
 abbrev pub miss : Street → TimingRecord → Dir → ℚ
-miss a p d = number (missed a p d) /ℚ number ((least_band a d).den * cycle a p)
+miss a p d = number (missed a p d) /ℚ number ((least_band a d).den * cycle a (base p))
 
 pub record IsScore (a : Street) (p : TimingRecord) (s : Score) : Type 0 where
   pub lineless : AreWithoutLine a p s.lineless
@@ -39,8 +40,8 @@ pub record IsScore (a : Street) (p : TimingRecord) (s : Score) : Type 0 where
 
 -- the sizes of a timing's cycle and bands
 pub record IsSmall (a : Street) (p : TimingRecord) : Type 0 where
-  pub some : 0 < cycle a p
-  pub cycle : cycle a p < 2 ^ 92
+  pub some : 0 < cycle a (base p)
+  pub cycle : cycle a (base p) < 2 ^ 92
   pub band_out : p.band_out < 2 ^ 92
   pub band_in : p.band_in < 2 ^ 92
 

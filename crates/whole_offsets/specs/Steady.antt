@@ -1,6 +1,7 @@
 -- Offsets from which no move leads to a better plan, and what rule the plan breaks.
 use Rattle.std.specs.Prelude.{◌≡◌, ℕ, List, Option, None, Some}
 use Rattle.progression.specs.Street.{Street}
+use Rattle.progression.specs.BaseRecord.{BaseRecord}
 use Rattle.progression.specs.TimingRecord.{TimingRecord}
 use Rattle.progression.specs.Good.{Good}
 use Rattle.progression.specs.declared.parts.Dir.TheVariants.{Outbound, Inbound}
@@ -17,16 +18,16 @@ use Rattle.whole_offsets.specs.Offsets.{AreWithin, IsPlanOf}
 use Rattle.whole_offsets.specs.Moves.{IsMove}
 use Rattle.whole_offsets.specs.Score.{IsBetterPlan}
 
--- The plan of the offsets in a cycle of k seconds. The plan of no move from them is better, nor is that of the offsets nearest to t's. Each of these
+-- The plan of the offsets in a cycle of k seconds. The plan of no move from them is better, nor is that of the offsets nearest to b's. Each of these
 -- offsets has a plan (`try_offsets` makes it, but for want of memory), and all plans of the same offsets are as good.
-pub record IsSteady (a : Street) (t : TimingRecord) (k : ℕ) (offsets : List ℕ) (p : TimingRecord) : Type 0 where
-  pub fine : too_large a t k ≡ None
+pub record IsSteady (a : Street) (b : BaseRecord) (k : ℕ) (offsets : List ℕ) (p : TimingRecord) : Type 0 where
+  pub fine : too_large a b k ≡ None
   pub within : AreWithin a k offsets
-  pub plan : IsPlanOf a t k offsets p
-  pub steady : (other : List ℕ) (q : TimingRecord) → IsMove k offsets other → IsPlanOf a t k other q → ¬ IsBetterPlan a q p
+  pub plan : IsPlanOf a b k offsets p
+  pub steady : (other : List ℕ) (q : TimingRecord) → IsMove k offsets other → IsPlanOf a b k other q → ¬ IsBetterPlan a q p
   pub first : List ℕ
-  pub nearest : AreOffsets a t k first
-  pub no_worse : (q : TimingRecord) → IsPlanOf a t k first q → ¬ IsBetterPlan a q p
+  pub nearest : AreOffsets a b k first
+  pub no_worse : (q : TimingRecord) → IsPlanOf a b k first q → ¬ IsBetterPlan a q p
 
 -- a band that isn't green all the way has no line
 abbrev pub end_of : Failing → PlanEnd
@@ -40,7 +41,7 @@ IsEndOf a p None = Good a p
 IsEndOf a p (Some e) = (f : Failing) × (IsFirstFailing a p f × (e ≡ end_of f))
 
 -- some number is too large, this the first; or want of memory
-abbrev pub IsSteadyFault : Street → TimingRecord → ℕ → PlanFault → Type 0
-IsSteadyFault a t k (fault.End (end.TooFine ticks)) = too_large a t k ≡ Some ticks
-IsSteadyFault a t k (fault.End e) = ⊥
-IsSteadyFault a t k fault.Memory = Unit {0}
+abbrev pub IsSteadyFault : Street → BaseRecord → ℕ → PlanFault → Type 0
+IsSteadyFault a b k (fault.End (end.TooFine ticks)) = too_large a b k ≡ Some ticks
+IsSteadyFault a b k (fault.End e) = ⊥
+IsSteadyFault a b k fault.Memory = Unit {0}

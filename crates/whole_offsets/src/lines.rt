@@ -1,10 +1,11 @@
 //! The widest band of a direction with free runs, and runs that have it.
 
 ghost use Rattle.std.specs.Prelude.{◌≡◌, ◌+◌, ◌-◌, ◌<◌, ◌≤◌, length, IfOk};
-ghost use Rattle.progression.specs.{Street.{count}, TimingRecord.{cycle}};
+ghost use Rattle.progression.specs.{Street.{count}, BaseRecord.{cycle}};
 ghost use Rattle.free_runs.specs.Free.{NoneFree, IsFree};
 ghost use Rattle.artery_model.specs.Bounds.{most_signals};
 ghost use Rattle.whole_offsets.specs.Lines.{HasRuns, IsDirectionBand, place_of, AreRunsOf, AreLeast};
+ghost use Rattle.time_space.specs.Timing.{IsFor};
 
 use artery_model::Artery;
 use band_measure::Widest;
@@ -12,9 +13,8 @@ use free_band::FreeBand;
 use free_runs::{run_limits, widest_band};
 use narrow_fraction::Memory;
 use progression::Dir;
-use second_plan::NO_PAIR;
 use std::alloc::Global;
-use time_space::Timing;
+use time_space::Base;
 
 /// The widest band of a direction, with its runs.
 #[derive(Drop)]
@@ -54,18 +54,13 @@ fn runs_of(alloc: Global, artery: &Artery, dir: Dir, free: &FreeBand) -> Result<
 }
 
 /// The least runs within the limits of speed, in the order of the links.
-fn least_runs(
-    alloc: Global,
-    artery: &Artery,
-    timing: &Timing,
-    dir: Dir,
-) -> Result<Vec<u128>, Memory>
-    requires runs { HasRuns artery.now timing.now.grid }
-    ensures { IfOk result (λ runs. AreLeast artery.now timing.now.grid dir runs.items (count artery.now - 1)) }
+fn least_runs(alloc: Global, artery: &Artery, base: &Base, dir: Dir) -> Result<Vec<u128>, Memory>
+    requires runs { HasRuns artery.now base.now.grid }
+    ensures { IfOk result (λ runs. AreLeast artery.now base.now.grid dir runs.items (count artery.now - 1)) }
 {
     let mut runs = Vec::new(alloc);
     for index in 0..artery.count() - 1 {
-        runs.push(run_limits(artery, timing, dir, index + 1).least)?;
+        runs.push(run_limits(artery, base, dir, index + 1).least)?;
     }
     Ok(runs)
 }
@@ -74,14 +69,14 @@ fn least_runs(
 fn found_band(
     alloc: Global,
     artery: &Artery,
-    timing: &Timing,
+    base: &Base,
     dir: Dir,
     free: &FreeBand,
 ) -> Result<DirectionBand, Memory>
-    requires free { IsFree artery.now timing.now dir free.now }
-    requires first { free.now.first < cycle artery.now timing.now }
-    requires band { free.now.band < cycle artery.now timing.now }
-    ensures { IfOk result (λ b. IsDirectionBand artery.now timing.now dir b) }
+    requires free { IsFree artery.now base.now dir free.now }
+    requires first { free.now.first < cycle artery.now base.now }
+    requires band { free.now.band < cycle artery.now base.now }
+    ensures { IfOk result (λ b. IsDirectionBand artery.now base.now dir b) }
 {
     artery.known_valid();
     let runs = runs_of(alloc, artery, dir, free)?;
@@ -96,40 +91,35 @@ fn found_band(
 }
 
 /// That no line passes.
-fn no_band(
-    alloc: Global,
-    artery: &Artery,
-    timing: &Timing,
-    dir: Dir,
-) -> Result<DirectionBand, Memory>
-    requires runs { HasRuns artery.now timing.now.grid }
-    requires none { NoneFree artery.now timing.now dir }
-    requires some { 0 < cycle artery.now timing.now }
-    ensures { IfOk result (λ b. IsDirectionBand artery.now timing.now dir b) }
+fn no_band(alloc: Global, artery: &Artery, base: &Base, dir: Dir) -> Result<DirectionBand, Memory>
+    requires runs { HasRuns artery.now base.now.grid }
+    requires none { NoneFree artery.now base.now dir }
+    requires some { 0 < cycle artery.now base.now }
+    ensures { IfOk result (λ b. IsDirectionBand artery.now base.now dir b) }
 {
     artery.known_valid();
-    let runs = least_runs(alloc, artery, timing, dir)?;
+    let runs = least_runs(alloc, artery, base, dir)?;
     Ok(DirectionBand {
-        pair: NO_PAIR,
+        pair: Widest { first: 0, band: 0 },
         runs,
         lineless: 1,
     })
 }
 
-/// The widest band of a direction on the offsets of a timing, with any runs within the limits of speed.
+/// The widest band of a direction on the offsets of a base, with any runs within the limits of speed.
 pub fn direction_band(
     alloc: Global,
     artery: &Artery,
-    timing: &Timing,
+    base: &Base,
     dir: Dir,
 ) -> Result<DirectionBand, Memory>
-    requires shape { length timing.now.patterns ≡ count artery.now }
-    requires runs { HasRuns artery.now timing.now.grid }
-    requires some { 0 < cycle artery.now timing.now }
-    ensures { IfOk result (λ b. IsDirectionBand artery.now timing.now dir b) }
+    requires shape { IsFor artery.now base.now }
+    requires runs { HasRuns artery.now base.now.grid }
+    requires some { 0 < cycle artery.now base.now }
+    ensures { IfOk result (λ b. IsDirectionBand artery.now base.now dir b) }
 {
-    match widest_band(artery, timing, dir) {
-        Some(free) => found_band(alloc, artery, timing, dir, &free),
-        None => no_band(alloc, artery, timing, dir),
+    match widest_band(artery, base, dir) {
+        Some(free) => found_band(alloc, artery, base, dir, &free),
+        None => no_band(alloc, artery, base, dir),
     }
 }

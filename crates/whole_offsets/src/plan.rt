@@ -1,22 +1,22 @@
 //! The plan of given offsets.
 
 ghost use Rattle.std.specs.Prelude.{◌≡◌, ◌≤◌, false, true, None, IfOk};
-ghost use Rattle.progression.specs.Good.{Good};
+ghost use Rattle.progression.specs.Good.{IsBase};
 ghost use Rattle.second_plan.specs.{Grid.{too_fine}, Seconds.{IsWholeCycle}};
 ghost use Rattle.whole_offsets.specs.{Scale.{limits_pace, IsScale}, Offsets.{AreWithin}, Tried.{IsTried}};
-ghost use Rattle.whole_offsets.specs.Frame.{IsMeasuredFor, or_nothing, lacking};
+ghost use Rattle.whole_offsets.specs.Measured.{IsMeasuredFor, or_nothing, lacking};
 
-use crate::frames::{frame, with_found};
+use crate::bases::{on_offsets, with_found};
 use crate::lines::direction_band;
-use crate::scale::limits_pace;
+use crate::scale::{Scale, limits_pace};
 use crate::score::{Score, judged};
 use artery_model::Artery;
-use band_measure::{Bands, GridScale, Widest, cut, law_finer_pairs, law_own_pair, widest};
+use band_measure::{Bands, Widest, cut, law_finer_pairs, widest_on};
 use narrow_fraction::Memory;
 use progression::Dir;
-use second_plan::{NO_PAIR, NO_PAIRS, Rounded, timed};
+use second_plan::{Rounded, in_seconds};
 use std::alloc::Global;
-use time_space::Timing;
+use time_space::{Base, Timing};
 
 /// Offsets that are tried, their plan, and what it is judged by.
 #[derive(Drop)]
@@ -37,28 +37,27 @@ struct Measured {
 fn free_plan(
     alloc: Global,
     artery: &Artery,
-    timing: &Timing,
-    scale: GridScale,
+    base: &Base,
+    scale: Scale,
     rounded: &Rounded,
 ) -> Result<Measured, Memory>
     requires free { limits_pace artery.now ≡ false }
-    requires good { Good artery.now timing.now }
-    requires scale { IsScale artery.now timing.now rounded.now.seconds scale.grid scale.unit }
+    requires base { IsBase artery.now base.now }
+    requires scale { IsScale artery.now base.now rounded.now.seconds scale.grid scale.unit }
     requires within { AreWithin artery.now rounded.now.seconds rounded.now.offsets.items }
-    ensures { IfOk result (λ m. IsMeasuredFor artery.now timing.now rounded.now.seconds rounded.now.offsets.items m.timing m.lineless) }
+    ensures { IfOk result (λ m. IsMeasuredFor artery.now base.now rounded.now.seconds rounded.now.offsets.items m.timing m.lineless) }
 {
     artery.known_valid();
-    law_own_pair();
-    let frame = frame(alloc, artery, timing, scale, rounded)?;
-    let out = direction_band(alloc, artery, &frame, Dir::Outbound)?;
-    let back = direction_band(alloc, artery, &frame, Dir::Inbound)?;
+    let on = on_offsets(alloc, artery, base, scale, rounded)?;
+    let out = direction_band(alloc, artery, &on, Dir::Outbound)?;
+    let back = direction_band(alloc, artery, &on, Dir::Inbound)?;
     let wide = Bands {
         outbound: out.pair.band,
         inbound: back.pair.band,
     };
     let bands = cut(artery, wide);
     let lineless = out.lineless + back.lineless;
-    let timing = with_found(alloc, &frame, out, back, bands)?;
+    let timing = with_found(alloc, &on, out, back, bands)?;
     Ok(Measured { timing, lineless })
 }
 
@@ -68,7 +67,7 @@ fn or_nothing(found: Option<Widest>) -> Widest
 {
     match found {
         Some(pair) => pair,
-        None => NO_PAIR,
+        None => Widest { first: 0, band: 0 },
     }
 }
 
@@ -83,28 +82,27 @@ fn lacking(found: Option<Widest>) -> u32
     }
 }
 
-/// The plan with the timing's runs.
+/// The plan with the runs of the base.
 fn pace_plan(
     alloc: Global,
     artery: &Artery,
-    timing: &Timing,
+    base: &Base,
     rounded: &Rounded,
 ) -> Result<Measured, Memory>
     requires limited { limits_pace artery.now ≡ true }
-    requires good { Good artery.now timing.now }
-    requires fine { too_fine artery.now timing.now rounded.now.seconds ≡ None }
+    requires base { IsBase artery.now base.now }
+    requires fine { too_fine artery.now base.now rounded.now.seconds ≡ None }
     requires some { 1 ≤ rounded.now.seconds }
     requires small { rounded.now.seconds ≤ 3600 }
     requires within { AreWithin artery.now rounded.now.seconds rounded.now.offsets.items }
     requires whole { IsWholeCycle artery.now rounded.now.seconds }
-    ensures { IfOk result (λ m. IsMeasuredFor artery.now timing.now rounded.now.seconds rounded.now.offsets.items m.timing m.lineless) }
+    ensures { IfOk result (λ m. IsMeasuredFor artery.now base.now rounded.now.seconds rounded.now.offsets.items m.timing m.lineless) }
 {
     artery.known_valid();
-    law_own_pair();
     law_finer_pairs();
-    let frame = timed(alloc, artery, timing, rounded, NO_PAIRS)?;
-    let found_out = widest(artery, &frame, Dir::Outbound);
-    let found_in = widest(artery, &frame, Dir::Inbound);
+    let on = in_seconds(alloc, artery, base, rounded)?;
+    let found_out = widest_on(artery, &on, Dir::Outbound);
+    let found_in = widest_on(artery, &on, Dir::Inbound);
     let (out, back) = (or_nothing(found_out), or_nothing(found_in));
     let wide = Bands {
         outbound: out.band,
@@ -112,7 +110,7 @@ fn pace_plan(
     };
     let bands = cut(artery, wide);
     let lineless = lacking(found_out) + lacking(found_in);
-    let timing = frame.with_bands(out.first, bands.outbound, back.first, bands.inbound);
+    let timing = on.banded(out.first, bands.outbound, back.first, bands.inbound);
     Ok(Measured { timing, lineless })
 }
 
@@ -120,20 +118,20 @@ fn pace_plan(
 fn plan_of(
     alloc: Global,
     artery: &Artery,
-    timing: &Timing,
-    scale: GridScale,
+    base: &Base,
+    scale: Scale,
     rounded: &Rounded,
 ) -> Result<Measured, Memory>
-    requires good { Good artery.now timing.now }
-    requires scale { IsScale artery.now timing.now rounded.now.seconds scale.grid scale.unit }
+    requires base { IsBase artery.now base.now }
+    requires scale { IsScale artery.now base.now rounded.now.seconds scale.grid scale.unit }
     requires within { AreWithin artery.now rounded.now.seconds rounded.now.offsets.items }
     requires whole { IsWholeCycle artery.now rounded.now.seconds }
-    ensures { IfOk result (λ m. IsMeasuredFor artery.now timing.now rounded.now.seconds rounded.now.offsets.items m.timing m.lineless) }
+    ensures { IfOk result (λ m. IsMeasuredFor artery.now base.now rounded.now.seconds rounded.now.offsets.items m.timing m.lineless) }
 {
     if limits_pace(artery) {
-        pace_plan(alloc, artery, timing, rounded)
+        pace_plan(alloc, artery, base, rounded)
     } else {
-        free_plan(alloc, artery, timing, scale, rounded)
+        free_plan(alloc, artery, base, scale, rounded)
     }
 }
 
@@ -141,18 +139,18 @@ fn plan_of(
 pub fn try_offsets(
     alloc: Global,
     artery: &Artery,
-    timing: &Timing,
-    scale: GridScale,
+    base: &Base,
+    scale: Scale,
     rounded: Rounded,
 ) -> Result<Tried, Memory>
-    requires good { Good artery.now timing.now }
-    requires scale { IsScale artery.now timing.now rounded.seconds scale.grid scale.unit }
+    requires base { IsBase artery.now base.now }
+    requires scale { IsScale artery.now base.now rounded.seconds scale.grid scale.unit }
     requires within { AreWithin artery.now rounded.seconds rounded.offsets.items }
     requires whole { IsWholeCycle artery.now rounded.seconds }
-    ensures plan { IfOk result (λ x. IsTried artery.now timing.now rounded.seconds x) }
+    ensures plan { IfOk result (λ x. IsTried artery.now base.now rounded.seconds x) }
     ensures offsets { IfOk result (λ x. x.rounded ≡ rounded) }
 {
-    let Measured { timing, lineless } = plan_of(alloc, artery, timing, scale, &rounded)?;
+    let Measured { timing, lineless } = plan_of(alloc, artery, base, scale, &rounded)?;
     let score = judged(artery, &timing, lineless);
     Ok(Tried {
         rounded,

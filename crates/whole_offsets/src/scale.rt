@@ -2,17 +2,25 @@
 
 ghost use Rattle.std.specs.Prelude.{◌≡◌, ◌+◌, ◌-◌, ◌*◌, ◌<◌, ◌≤◌, ◌^◌, if◌then◌else◌, false, true, None, Some, IfOk, IfErr};
 ghost use Rattle.rational_theory.specs.Gcd.{lcm};
-ghost use Rattle.progression.specs.Street.{count};
+ghost use Rattle.progression.specs.Street.{count, HasLink};
 ghost use Rattle.whole_offsets.specs.Scale.{limits_pace, most_run, has_whole_run, growth, is_large, grown, multiple};
 ghost use Rattle.whole_offsets.specs.Scale.{large, large_run, free_large, too_large, IsScale};
 
 use artery_model::Artery;
-use band_measure::GridScale;
 use free_runs::{denominator, numerator};
 use narrow_fraction::common_multiple;
 use progression::Dir;
 use second_plan::too_fine;
-use time_space::{LIMIT, Timing};
+use time_space::{Base, LIMIT};
+
+/// How fine the ticks of a plan are.
+#[derive(Clone, Copy)]
+pub struct Scale {
+    /// The ticks in a second.
+    pub grid: u128,
+    /// The ticks in a part.
+    pub unit: u128,
+}
 
 /// A plan's grid has at least so many ticks in a second for each part of the cycle.
 const LEAST_MULTIPLE: u128 = 1000;
@@ -26,8 +34,7 @@ pub fn limits_pace(artery: &Artery) -> bool
 
 /// The greatest run on a link in whole ticks.
 fn most_run(artery: &Artery, grid: u128, dir: Dir, link: u32) -> u128
-    requires first { 1 ≤ link }
-    requires last { link < count artery.now }
+    requires link { HasLink artery.now link }
     requires grid { grid < 2 ^ 80 }
     ensures value { result ≡ most_run artery.now grid dir link }
     ensures small { result ≤ grid * 540000000 }
@@ -38,8 +45,7 @@ fn most_run(artery: &Artery, grid: u128, dir: Dir, link: u32) -> u128
 
 /// Whether it isn't below the least run.
 fn has_whole_run(artery: &Artery, grid: u128, dir: Dir, link: u32) -> bool
-    requires first { 1 ≤ link }
-    requires last { link < count artery.now }
+    requires link { HasLink artery.now link }
     requires grid { grid < 2 ^ 40 }
     ensures { result ≡ has_whole_run artery.now grid dir link }
 {
@@ -50,8 +56,7 @@ fn has_whole_run(artery: &Artery, grid: u128, dir: Dir, link: u32) -> bool
 
 /// By how much the grid has to grow for a link.
 fn growth(artery: &Artery, dir: Dir, link: u32) -> u128
-    requires first { 1 ≤ link }
-    requires last { link < count artery.now }
+    requires link { HasLink artery.now link }
     ensures value { result ≡ growth artery.now dir link }
     ensures some { 1 ≤ result }
     ensures small { result < 2 ^ 22 }
@@ -82,8 +87,7 @@ fn common(left: u128, right: u128) -> u128
 
 /// What the multiple is after one more link.
 fn grown_once(artery: &Artery, dir: Dir, link: u32, before: u128) -> u128
-    requires first { 1 ≤ link }
-    requires last { link < count artery.now }
+    requires link { HasLink artery.now link }
     requires some { 1 ≤ before }
     requires small { before < 2 ^ 102 }
     ensures value { result ≡ (if is_large (artery.now.head.parts * before) then before else lcm before (growth artery.now dir link)) }
@@ -161,51 +165,51 @@ fn free_large(artery: &Artery, grid: u128, seconds: u64) -> Option<u128>
 }
 
 /// The scale of a plan with free runs, or the first of its numbers that no timing can hold.
-fn free_scale(artery: &Artery, timing: &Timing, seconds: u64) -> Result<GridScale, u128>
+fn free_scale(artery: &Artery, base: &Base, seconds: u64) -> Result<Scale, u128>
     requires free { limits_pace artery.now ≡ false }
     requires some { 1 ≤ seconds }
     requires small { seconds ≤ 3600 }
-    ensures scale { IfOk result (λ s. IsScale artery.now timing.now seconds s.grid s.unit) }
-    ensures large { IfErr result (λ n. too_large artery.now timing.now seconds ≡ Some n) }
+    ensures scale { IfOk result (λ s. IsScale artery.now base.now seconds s.grid s.unit) }
+    ensures large { IfErr result (λ n. too_large artery.now base.now seconds ≡ Some n) }
 {
     let multiple = multiple(artery);
     let grid = u128::from(artery.parts()) * multiple;
     match free_large(artery, grid, seconds) {
         Some(ticks) => Err(ticks),
-        None => Ok(GridScale {
+        None => Ok(Scale {
             grid,
             unit: u128::from(seconds) * multiple,
         }),
     }
 }
 
-/// The scale of a plan whose runs are the timing's, or the first of its numbers that no timing can hold.
-fn pace_scale(artery: &Artery, timing: &Timing, seconds: u64) -> Result<GridScale, u128>
+/// The scale of a plan whose runs are those of the base, or the first of its numbers that no timing can hold.
+fn pace_scale(artery: &Artery, base: &Base, seconds: u64) -> Result<Scale, u128>
     requires limited { limits_pace artery.now ≡ true }
     requires some { 1 ≤ seconds }
     requires small { seconds ≤ 3600 }
-    ensures scale { IfOk result (λ s. IsScale artery.now timing.now seconds s.grid s.unit) }
-    ensures large { IfErr result (λ n. too_large artery.now timing.now seconds ≡ Some n) }
+    ensures scale { IfOk result (λ s. IsScale artery.now base.now seconds s.grid s.unit) }
+    ensures large { IfErr result (λ n. too_large artery.now base.now seconds ≡ Some n) }
 {
-    match too_fine(artery, timing, seconds) {
+    match too_fine(artery, base, seconds) {
         Some(ticks) => Err(ticks),
-        None => Ok(GridScale {
-            grid: timing.grid() * (2 * u128::from(artery.parts())),
-            unit: 2 * u128::from(seconds) * timing.grid(),
+        None => Ok(Scale {
+            grid: base.grid() * (2 * u128::from(artery.parts())),
+            unit: 2 * u128::from(seconds) * base.grid(),
         }),
     }
 }
 
 /// The scale of a plan, or the first of its numbers that no timing can hold.
-pub fn scale(artery: &Artery, timing: &Timing, seconds: u64) -> Result<GridScale, u128>
+pub fn scale_of(artery: &Artery, base: &Base, seconds: u64) -> Result<Scale, u128>
     requires some { 1 ≤ seconds }
     requires small { seconds ≤ 3600 }
-    ensures scale { IfOk result (λ s. IsScale artery.now timing.now seconds s.grid s.unit) }
-    ensures large { IfErr result (λ n. too_large artery.now timing.now seconds ≡ Some n) }
+    ensures scale { IfOk result (λ s. IsScale artery.now base.now seconds s.grid s.unit) }
+    ensures large { IfErr result (λ n. too_large artery.now base.now seconds ≡ Some n) }
 {
     if limits_pace(artery) {
-        pace_scale(artery, timing, seconds)
+        pace_scale(artery, base, seconds)
     } else {
-        free_scale(artery, timing, seconds)
+        free_scale(artery, base, seconds)
     }
 }

@@ -2,14 +2,15 @@
 
 ghost use Rattle.std.specs.Prelude.{◌≡◌, ◌↔◌, ◌+◌, ◌*◌, ◌<◌, ◌^◌, IsTrue, pos, unsigned_abs};
 ghost use Rattle.rational_theory.specs.Rational.{◌+ℚ◌};
-ghost use Rattle.progression.specs.TimingRecord.{cycle};
+ghost use Rattle.progression.specs.BaseRecord.{cycle};
+ghost use Rattle.progression.specs.TimingRecord.{base};
 ghost use Rattle.whole_offsets.specs.Score.{missed, miss, AreWithoutLine, IsScore, IsSmall, IsBetter};
 
 use artery_model::Artery;
 use free_runs::{denominator, numerator};
 use narrow_fraction::Frac;
 use progression::Dir;
-use time_space::{Timing, cycle, value};
+use time_space::{Timing, value};
 
 /// What a plan is judged by, in this order.
 #[derive(Clone, Copy)]
@@ -41,7 +42,7 @@ fn missed(artery: &Artery, timing: &Timing, dir: Dir) -> u128
     ensures small { result < 2 ^ 109 }
 {
     let least = artery.least_band(dir);
-    let wanted = numerator(least) * cycle(artery, timing);
+    let wanted = numerator(least) * timing.base().cycle(artery);
     wanted.saturating_sub(timing.band(dir) * denominator(least))
 }
 
@@ -58,13 +59,13 @@ fn missed_both(artery: &Artery, timing: &Timing) -> u128
 
 /// A cycle times both denominators.
 fn common_cycle(artery: &Artery, timing: &Timing) -> u128
-    ensures value { result ≡ artery.now.head.least_out.den * artery.now.head.least_in.den * cycle artery.now timing.now }
+    ensures value { result ≡ artery.now.head.least_out.den * artery.now.head.least_in.den * cycle artery.now (base timing.now) }
     ensures some { 0 < result }
     ensures small { result < 2 ^ 120 }
 {
     let out = denominator(artery.least_band(Dir::Outbound));
     let back = denominator(artery.least_band(Dir::Inbound));
-    out * back * cycle(artery, timing)
+    out * back * timing.base().cycle(artery)
 }
 
 /// A number with a sign.
@@ -91,7 +92,7 @@ fn misses(artery: &Artery, timing: &Timing) -> Frac
 fn known_small(artery: &Artery, timing: &Timing)
     ensures { IsSmall artery.now timing.now }
 {
-    let _ = cycle(artery, timing);
+    let _ = timing.base().cycle(artery);
     let _ = timing.band(Dir::Outbound);
     let _ = timing.band(Dir::Inbound);
 }

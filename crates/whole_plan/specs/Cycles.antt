@@ -3,7 +3,8 @@ use Rattle.std.specs.Prelude.{ℕ, ◌+◌, ◌*◌, ◌&&◌, ◌||◌, nat_lt,
 use Rattle.std.specs.List.{list_any, range_with_len}
 use Rattle.progression.specs.Street.{Street}
 use Rattle.progression.specs.Speeds.{number}
-use Rattle.progression.specs.TimingRecord.{TimingRecord, cycle}
+use Rattle.progression.specs.TimingRecord.{TimingRecord, base}
+use Rattle.progression.specs.BaseRecord.{cycle}
 use Rattle.progression.specs.declared.parts.Pair.{Pair}
 use Rattle.artery_model.specs.Limits.{at_most}
 use Rattle.second_plan.specs.Nearest.{apart}
@@ -27,7 +28,7 @@ middle p = record {
 
 -- the cycle of the given timing, and without one halfway between the limits
 abbrev pub centre : Street → Option TimingRecord → Seconds
-centre a (Some t) = record { num = cycle a t; den = t.grid }
+centre a (Some t) = record { num = cycle a (base t); den = t.grid }
 centre a None = middle a.head.cycle
 
 -- j is nearer to it than k, or as near and less

@@ -10,7 +10,7 @@ use artery_model::bounds::MOST_CYCLE;
 use artery_model::{Artery, Pair};
 use narrow_fraction::{Frac, Memory};
 use std::alloc::Global;
-use time_space::{Timing, cycle};
+use time_space::Timing;
 
 /// The most seconds that a cycle may have.
 const MOST_SECONDS: u64 = MOST_CYCLE as u64;
@@ -81,7 +81,7 @@ fn centre(artery: &Artery, given: &Option<Timing>) -> Seconds
 {
     match given {
         Some(timing) => Seconds {
-            num: cycle(artery, timing),
+            num: timing.base().cycle(artery),
             den: timing.grid(),
         },
         None => middle(artery.cycle()),

@@ -1,7 +1,7 @@
 //! The set of offsets that comes of a cycle.
 
 ghost use Rattle.std.specs.Prelude.{IfOk, IfSome};
-ghost use Rattle.progression.specs.Good.{Good};
+ghost use Rattle.progression.specs.{Good.{Good}, TimingRecord.{base}};
 ghost use Rattle.second_plan.specs.Seconds.{IsWholeCycle};
 ghost use Rattle.whole_plan.specs.{Sought.{street_at, IsSought}, Sets.{IsOutcomeFrom, IsOutcome}};
 
@@ -31,9 +31,9 @@ fn outcome_from(
 ) -> Result<Outcome, Memory>
     requires good { Good artery.now timing.now }
     requires whole { IsWholeCycle artery.now seconds }
-    ensures { IfOk result (λ outcome. IsOutcomeFrom artery.now timing.now seconds outcome) }
+    ensures { IfOk result (λ outcome. IsOutcomeFrom artery.now (base timing.now) seconds outcome) }
 {
-    match steady(alloc, artery, timing, seconds) {
+    match steady(alloc, artery, timing.base(), seconds) {
         Ok(plan) => Ok(Outcome::OffsetSet(plan)),
         Err(PlanFault::End(end)) => Ok(Outcome::Ended(end)),
         Err(PlanFault::Memory) => Err(Memory),

@@ -11,7 +11,7 @@ loop-place-preserved c =
     let inside : c.loop-place.place < length c.loop-place.links = omega (arith, n, few) in
     record {
       room = simp length-set n;
-      legs = set_more (λ (j : ℕ) (l : Link). IsLeg c.args.artery.now c.args.timing.now c.args.dir j l) c.loop-place.links (record { least = 0; most = 0; clear = 0 }) c.loop-place.place
+      legs = set_more (λ (j : ℕ) (l : Link). IsLeg c.args.artery.now c.args.base.now c.args.dir j l) c.loop-place.links (record { least = 0; most = 0; clear = 0 }) c.loop-place.place
           c.link_on.result
           inside c.loop-place.invariant.legs c.link_on.ensures;
     }

@@ -1,7 +1,7 @@
 use Rattle.std.proofs.Common.{◌≡◌, ◌∙◌, sym, ap, ap₂, ℕ, [], ◌∷◌, map, ◌*◌, ◌^◌, Option}
 use Rattle.std.specs.Prelude.{find, nat_le, List}
 use Rattle.std.specs.Option.{option_or}
-use Rattle.progression.specs.TimingRecord.{cycle}
+use Rattle.progression.specs.BaseRecord.{cycle}
 use Rattle.second_plan.specs.Grid.{fineness, in_seconds}
 use Rattle.second_plan.proofs.Fine.{first_of_four}
 use Rattle.second_plan.proofs.grid.too_fine.Goals as goal
@@ -11,7 +11,7 @@ large_of xs = find (λ n. nat_le (2 ^ 80) n) xs
 
 pub returns : goal.returns
 returns c =
-    let a = c.args.artery.now in let t = c.args.timing.now in
+    let a = c.args.artery.now in let t = c.args.base.now in
     let grid = t.grid * fineness a ∷ [] in
     let there = map (λ n. n * fineness a) t.run_out in
     let back = map (λ n. n * fineness a) t.run_in in

@@ -2,13 +2,14 @@ use Rattle.std.proofs.Common.{◌≡◌, ◌∙◌, sym, ap, subst, arith}
 use Rattle.rational_theory.specs.Rational.{◌-ℚ◌, ◌≤ℚ◌}
 use Rattle.progression.specs.Speeds.{number}
 use Rattle.progression.specs.Best.{weighted_band}
+use Rattle.second_plan.specs.Ends.{Faults}
 use Rattle.second_plan.proofs.Best.{loss_least}
 use Rattle.std.proofs.lemmas.Grind.{common_steps}
 use Rattle.rational_theory.proofs.Compare.{ne_false, eq_true, lt_true, lt_false, le_true, le_false}
 use Rattle.second_plan.proofs.planning.plan.Goals as goal
 
 pub returns-in-Err-clause-faults : goal.returns-in-Err-clause-faults
-returns-in-Err-clause-faults c = c.in-Err.ensures.faults c.args.claim
+returns-in-Err-clause-faults c = subst (λ b. Faults c.args.artery.now c.args.claim b c.in-Err.fault) c.base-given.ensures (c.in-Err.ensures.faults c.args.claim)
 
 pub returns-in-Ok-minus-clause-loss : goal.returns-in-Ok-minus-clause-loss
 returns-in-Ok-minus-clause-loss c = λ bound.

@@ -7,6 +7,6 @@ use Rattle.second_plan.proofs.seconds.offsets.Given as goal
 abbrev pub invariant-loop-place : goal.invariant-loop-place
 invariant-loop-place l = record {
   long : length l.offsets.items ≡ l.place;
-  each : (i : ℕ) → i < l.place → IsOffset l.artery l.timing l.seconds (i + 1) (get_or l.offsets.items i 0);
+  each : (i : ℕ) → i < l.place → IsOffset l.artery l.base l.seconds (i + 1) (get_or l.offsets.items i 0);
   below : All (λ n. n < l.seconds) l.offsets.items;
 }

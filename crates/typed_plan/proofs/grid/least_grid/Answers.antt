@@ -1,6 +1,6 @@
 use Rattle.std.proofs.Common.{◌*◌, sym, ◌∙◌, ap}
 use Rattle.typed_plan.specs.Grid.{shared, least_grid}
-use Rattle.typed_plan.proofs.LeastTiming.{part_ticks, part_size, twice_as_fine}
+use Rattle.typed_plan.proofs.LeastGrid.{part_ticks, part_size, twice_as_fine}
 use Rattle.typed_plan.proofs.grid.least_grid.Goals as goal
 
 pub returns-then-size_of-eq1-clause-value : goal.returns-then-size_of-eq1-clause-value

@@ -2,7 +2,7 @@ use Rattle.std.proofs.Common.{◌≡◌, ◌*◌, ◌≤◌, ◌∙◌, ap, subs
 use Rattle.rational_theory.specs.Rational.{ℚ, ◌/ℚ◌}
 use Rattle.narrow_fraction.specs.Fraction.{FitsFrac}
 use Rattle.artery_model.specs.Valid.{IsQuantity}
-use Rattle.progression.specs.Speeds.{number, seconds}
+use Rattle.progression.specs.Speeds.{seconds}
 use Rattle.typed_plan.proofs.AtSpeed.{one_quantity, not_zero, at_one, seconds_fit, seconds_short}
 use Rattle.typed_plan.proofs.seconds.at_speed.Goals as goal
 

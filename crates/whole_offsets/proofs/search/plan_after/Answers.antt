@@ -6,7 +6,7 @@ use Rattle.whole_offsets.proofs.search.plan_after.Goals as goal
 
 pub returns : goal.returns
 returns c =
-    after_of c.args.artery.now c.args.timing.now c.args.there.now c.args.given c.in_ok-rounded.rounded c.try_offsets.result c.in_ok-rounded.ensures.seconds c.in_ok-rounded.ensures.moved
+    after_of c.args.artery.now c.args.base.now c.args.there.now c.args.given c.in_ok-rounded.rounded c.try_offsets.result c.in_ok-rounded.ensures.seconds c.in_ok-rounded.ensures.moved
     c.try_offsets.ensures.plan c.try_offsets.ensures.offsets
 
 pub try_offsets-requires-clause-within : goal.try_offsets-requires-clause-within

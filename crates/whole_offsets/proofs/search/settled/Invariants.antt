@@ -5,7 +5,7 @@ use Rattle.whole_offsets.proofs.search.settled.Given as goal
 
 abbrev pub invariant-loop-there : goal.invariant-loop-there
 invariant-loop-there l = record {
-  tried : IsTried l.artery l.timing l.fn.first.rounded.seconds l.there;
+  tried : IsTried l.artery l.base l.fn.first.rounded.seconds l.there;
   no_worse : ¬ IsBetter l.fn.first.score l.there.score;
 }
 

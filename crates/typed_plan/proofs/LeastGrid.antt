@@ -1,4 +1,4 @@
--- The timing on the least grid is as it was typed, and none on a coarser grid is.
+-- The base on the least grid is as it was typed, and none on a coarser grid is.
 use Rattle.std.proofs.Common.{◌≡◌, ◌≢◌, inl, inr, ℕ, zero, suc, ◌+◌, ◌*◌, ◌-◌, ◌/◌, ◌<◌, ◌≤◌, ◌==◌, pos, ℤ, Bool, true, false, map, get_or, refl, sym}
 use Rattle.std.proofs.Common.{◌∙◌, ap, ap₂, subst, arith, unsigned_abs, mul-pos}
 use Rattle.std.specs.Prelude.{◌*ℤ◌, ◌+ℤ◌, ◌-ℤ◌, ◌≤ℤ◌, neg_ℤ, if◌then◌else◌}
@@ -17,16 +17,15 @@ use Rattle.rational_theory.proofs.Multiples.{IsMultiple, multiple_on}
 use Rattle.linear_theory.proofs.Points.{length-numbered, get-numbered}
 use Rattle.progression.specs.Columns.{numbered}
 use Rattle.progression.proofs.Remainders.{quot_ℤ, split_ℤ, mod_below, mod_unique}
-use Rattle.progression.specs.TimingRecord.{TimingRecord, IsTimingRecord, cycle, common_red, run}
+use Rattle.progression.specs.BaseRecord.{BaseRecord, IsBaseRecord, cycle, common_red, run}
 use Rattle.progression.specs.Street.{Street, count, HasSignal, HasLink}
 use Rattle.progression.specs.declared.parts.Dir.{Dir}
 use Rattle.progression.specs.declared.parts.Dir.TheVariants.{Outbound, Inbound}
-use Rattle.band_measure.specs.Pairs.{with_pairs}
 use Rattle.description_reader.specs.Typed.{Typed}
 use Rattle.typed_plan.specs.Asked.{offset, after, travel, moment, in_seconds, IsAfter, IsAsTyped, IsLeast}
 use Rattle.typed_plan.specs.Counts.{HasCounts}
 use Rattle.typed_plan.specs.Ends.{StartsAtOnce}
-use Rattle.typed_plan.specs.Grid.{time, shared, ticks, doubled, least_grid, size, least_unit, lead, red_tick, frame}
+use Rattle.typed_plan.specs.Grid.{time, shared, ticks, doubled, least_grid, size, least_unit, lead, red_tick, least_base}
 use Rattle.typed_plan.specs.declared.times.Times.TheVariants.{Part, Run}
 use Rattle.typed_plan.proofs.Moments.{moment_is}
 use Rattle.typed_plan.proofs.Shared.{over_divides, shared_above, has_part, has_after, has_run, shared_least}
@@ -138,26 +137,26 @@ module _ (a : Street) (p : Typed) (parts : 1 ≤ a.head.parts) (begun : pos 1 �
       unit_by (least_unit a p) first_unit (least_grid a p) (shared a p) (shared_above a p) some_first
       (same_over (least_unit a p) (least_grid a p) first_unit (shared a p) grid_above (shared_above a p) (over_unit ∙ sym over_first)) grid_is.0 grid_is.1
 
-  -- ---- no such timing is on a coarser grid
-  module _ (s : TimingRecord) (h : IsAsTyped a p s) where
+  -- ---- no such base is on a coarser grid
+  module _ (s : BaseRecord) (h : IsAsTyped a p s) where
     their_part : over (pos s.unit) s.grid ≡ time a p Part 1
-    their_part = part_of_cycle p.cycle a.head.parts s.unit s.grid parts h.plan.grid h.cycle
+    their_part = part_of_cycle p.cycle a.head.parts s.unit s.grid parts h.formed.grid h.cycle
 
     their_grid : shared a p ≤ s.grid
     their_grid =
         let Divides : ℚ → Type 0 = λ x. x.den ∣ s.grid in
-        le_of_dvd h.plan.grid (shared_least a p s.grid
-        (subst Divides their_part (over_divides (pos s.unit) s.grid h.plan.grid))
-        (λ i l r. subst Divides (h.offsets i (l, r)).later (over_divides _ s.grid h.plan.grid))
-        (λ d i l r. subst Divides (h.runs d i (l, r)) (over_divides (pos (run s d i)) s.grid h.plan.grid)))
+        le_of_dvd h.formed.grid (shared_least a p s.grid
+        (subst Divides their_part (over_divides (pos s.unit) s.grid h.formed.grid))
+        (λ i l r. subst Divides (h.offsets i (l, r)).later (over_divides _ s.grid h.formed.grid))
+        (λ d i l r. subst Divides (h.runs d i (l, r)) (over_divides (pos (run s d i)) s.grid h.formed.grid)))
 
     pub grid_no_more : least_grid a p ≤ s.grid
     grid_no_more = elim (cases_eq first_unit 1) [
       | inl one ↦ (
           let e = grid_is.0 one in
-          let u : first_unit * s.grid ≡ s.unit * shared a p = same_over first_unit (shared a p) s.unit s.grid (shared_above a p) h.plan.grid (over_first ∙ sym their_part) in
+          let u : first_unit * s.grid ≡ s.unit * shared a p = same_over first_unit (shared a p) s.unit s.grid (shared_above a p) h.formed.grid (over_first ∙ sym their_part) in
           let v : s.grid ≡ s.unit * shared a p = sym (ap (λ n. n * s.grid) one ∙ omega arith) ∙ u in
-          let m : 2 * shared a p ≤ s.unit * shared a p = mul-le-mul_right (shared a p) h.plan.unit in
+          let m : 2 * shared a p ≤ s.unit * shared a p = mul-le-mul_right (shared a p) h.formed.unit in
           omega (arith, e, v, m)
           )
       | inr more ↦ (let e = grid_is.1 more in let l = their_grid in omega (arith, e, l))
@@ -166,15 +165,15 @@ module _ (a : Street) (p : Typed) (parts : 1 ≤ a.head.parts) (begun : pos 1 �
     pub unit_no_more : least_unit a p ≤ s.unit
     unit_no_more =
         fewer (least_unit a p) s.unit (least_grid a p) s.grid
-        (same_over (least_unit a p) (least_grid a p) s.unit s.grid grid_above h.plan.grid (over_unit ∙ sym their_part)) grid_no_more grid_above
+        (same_over (least_unit a p) (least_grid a p) s.unit s.grid grid_above h.formed.grid (over_unit ∙ sym their_part)) grid_no_more grid_above
 
   -- ---- and the one on this grid is as it was typed
-  module _ (counts : HasCounts a p) (few : 1 ≤ count a) (forward : (d : Dir) (i : ℕ) → HasLink a i → pos 0 ≤ℤ (travel a p d i).num) (x : ℤ) (b : ℕ) (y : ℤ) (c : ℕ) where
-    abbrev timing : TimingRecord
-    timing = with_pairs x b y c (frame a p)
+  module _ (counts : HasCounts a p) (few : 1 ≤ count a) (forward : (d : Dir) (i : ℕ) → HasLink a i → pos 0 ≤ℤ (travel a p d i).num) where
+    abbrev least : BaseRecord
+    least = least_base a p
 
-    is_plan : IsTimingRecord timing
-    is_plan = record {
+    is_formed : IsBaseRecord least
+    is_formed = record {
       grid = grid_above;
       unit = unit_least;
       reds = length-map (numbered (count a) 1 (red_tick a p)) pos ∙ length-numbered (count a) 1 (red_tick a p) ∙ sym counts.patterns;
@@ -185,64 +184,64 @@ module _ (a : Street) (p : Typed) (parts : 1 ≤ a.head.parts) (begun : pos 1 �
         one_back : (n : ℕ) → 1 ≤ n → n - 1 + 1 ≡ n
         one_back n h = omega arith
 
-    run_is : (d : Dir) (i : ℕ) → HasLink a i → run timing d i ≡ size a p (Run d) i
+    run_is : (d : Dir) (i : ℕ) → HasLink a i → run least d i ≡ size a p (Run d) i
     run_is Outbound i h = get-numbered (count a - 1) 1 (i - 1) (size a p (Run Outbound)) 0 (omega (arith, h.0, h.1)) ∙ ap (size a p (Run Outbound)) (omega (arith, h.0))
     run_is Inbound i h = get-numbered (count a - 1) 1 (i - 1) (size a p (Run Inbound)) 0 (omega (arith, h.0, h.1)) ∙ ap (size a p (Run Inbound)) (omega (arith, h.0))
 
-    run_seconds : (d : Dir) (i : ℕ) → HasLink a i → in_seconds timing (pos (run timing d i)) ≡ travel a p d i
+    run_seconds : (d : Dir) (i : ℕ) → HasLink a i → in_seconds least (pos (run least d i)) ≡ travel a p d i
     run_seconds d i h =
         ap (λ n. over (pos n) (least_grid a p)) (run_is d i h)
         ∙ ap (λ z. over z (least_grid a p)) (ticks_up (least_grid a p) (travel a p d i) (forward d i h))
         ∙ over_ticks (least_grid a p) (travel a p d i) grid_above (multiple_on grid_multiple (has_run a p d i h.0 h.1))
 
-    red_is : (i : ℕ) → HasSignal a i → common_red timing i ≡ pos (red_tick a p i)
+    red_is : (i : ℕ) → HasSignal a i → common_red least i ≡ pos (red_tick a p i)
     red_is i h = get_mapped (count a) 1 (i - 1) (red_tick a p) (omega (arith, h.0, h.1)) ∙ ap (λ n. pos (red_tick a p n)) (omega (arith, h.0))
 
     no_ticks : ticks (least_grid a p) (after p 1) ≡ pos 0
     no_ticks = ap (ticks (least_grid a p)) (+ℚ-neg (offset p 1)) ∙ zero_ticks (least_grid a p)
 
-    some_cycle : 0 < cycle a timing
+    some_cycle : 0 < cycle a least
     some_cycle = let unit = unit_least in mul-pos parts (omega (arith, unit))
 
     abbrev turns : ℕ → ℤ
-    turns i = quot_ℤ (ticks (least_grid a p) (after p i) +ℤ lead a p 1 -ℤ lead a p i) (cycle a timing)
+    turns i = quot_ℤ (ticks (least_grid a p) (after p i) +ℤ lead a p 1 -ℤ lead a p i) (cycle a least)
 
     later_is : (i : ℕ) → HasSignal a i
-        → moment a p.reference timing i -ℤ moment a p.reference timing 1 +ℤ (turns i -ℤ turns 1) *ℤ pos (cycle a timing) ≡ ticks (least_grid a p) (after p i)
+        → moment a p.reference least i -ℤ moment a p.reference least 1 +ℤ (turns i -ℤ turns 1) *ℤ pos (cycle a least) ≡ ticks (least_grid a p) (after p i)
     later_is i h =
         let some = some_cycle in
-        let here = split_ℤ (ticks (least_grid a p) (after p i) +ℤ lead a p 1 -ℤ lead a p i) (cycle a timing) some in
-        let first = split_ℤ (ticks (least_grid a p) (after p 1) +ℤ lead a p 1 -ℤ lead a p 1) (cycle a timing) some in
-        ap₂ (λ u v. u -ℤ v +ℤ (turns i -ℤ turns 1) *ℤ pos (cycle a timing))
-        (moment_is a p.reference timing i ∙ ap (λ z. z +ℤ lead a p i) (red_is i h))
-        (moment_is a p.reference timing 1 ∙ ap (λ z. z +ℤ lead a p 1) (red_is 1 (omega arith, few)))
-        ∙ cycles_apart (pos (red_tick a p i)) (pos (red_tick a p 1)) (ticks (least_grid a p) (after p i)) (lead a p i) (lead a p 1) (pos (cycle a timing))
+        let here = split_ℤ (ticks (least_grid a p) (after p i) +ℤ lead a p 1 -ℤ lead a p i) (cycle a least) some in
+        let first = split_ℤ (ticks (least_grid a p) (after p 1) +ℤ lead a p 1 -ℤ lead a p 1) (cycle a least) some in
+        ap₂ (λ u v. u -ℤ v +ℤ (turns i -ℤ turns 1) *ℤ pos (cycle a least))
+        (moment_is a p.reference least i ∙ ap (λ z. z +ℤ lead a p i) (red_is i h))
+        (moment_is a p.reference least 1 ∙ ap (λ z. z +ℤ lead a p 1) (red_is 1 (omega arith, few)))
+        ∙ cycles_apart (pos (red_tick a p i)) (pos (red_tick a p 1)) (ticks (least_grid a p) (after p i)) (lead a p i) (lead a p 1) (pos (cycle a least))
         (turns i) (turns 1) here (ap (λ z. z +ℤ lead a p 1 -ℤ lead a p 1) (sym no_ticks) ∙ first)
 
-    pub first_red : common_red timing 1 ≡ pos 0
+    pub first_red : common_red least 1 ≡ pos 0
     first_red =
         let e = no_ticks in
         let z = ticks (least_grid a p) (after p 1) +ℤ lead a p 1 -ℤ lead a p 1 in
-        let zero : z ≡ pos 0 *ℤ pos (cycle a timing) +ℤ pos 0 = omega (arith, ints, e) in
-        red_is 1 (omega arith, few) ∙ ap pos (mod_unique z (pos 0) (cycle a timing) 0 zero some_cycle)
+        let zero : z ≡ pos 0 *ℤ pos (cycle a least) +ℤ pos 0 = omega (arith, ints, e) in
+        red_is 1 (omega arith, few) ∙ ap pos (mod_unique z (pos 0) (cycle a least) 0 zero some_cycle)
 
-    pub red_starts : (i : ℕ) → HasSignal a i → StartsAtOnce a timing i
+    pub red_starts : (i : ℕ) → HasSignal a i → StartsAtOnce a least i
     red_starts i h = record {
       tick = red_tick a p i;
       is = red_is i h;
-      below = mod_below (ticks (least_grid a p) (after p i) +ℤ lead a p 1 -ℤ lead a p i) (cycle a timing) some_cycle;
+      below = mod_below (ticks (least_grid a p) (after p i) +ℤ lead a p 1 -ℤ lead a p i) (cycle a least) some_cycle;
     }
 
-    offset_is : (i : ℕ) → HasSignal a i → IsAfter a p timing i
+    offset_is : (i : ℕ) → HasSignal a i → IsAfter a p least i
     offset_is i h = record {
       k = turns i -ℤ turns 1;
       later = ap (λ z. over z (least_grid a p)) (later_is i h) ∙ over_ticks (least_grid a p) (after p i) grid_above (multiple_on grid_multiple (has_after a p i h.0 h.1));
     }
 
-    pub is_least : IsLeast a p timing
+    pub is_least : IsLeast a p least
     is_least = record {
       as_typed = record {
-        plan = is_plan;
+        formed = is_formed;
         cycle = cycle_of_parts p.cycle a.head.parts (least_unit a p) (least_grid a p) parts grid_above over_unit;
         patterns = refl;
         offsets = offset_is;

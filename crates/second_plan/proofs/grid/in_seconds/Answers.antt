@@ -1,17 +1,18 @@
 use Rattle.std.proofs.Common.{◌∙◌, ◌*◌, map, ap₂, subst, arith}
 use Rattle.std.specs.Prelude.{All, ◌≤◌}
-use Rattle.second_plan.proofs.Fine.{parts_of, plan_is, is_timing}
+use Rattle.second_plan.proofs.Fine.{parts_of, base_is, of_base}
 use Rattle.std.proofs.lemmas.Grind.{common_steps}
 use Rattle.rational_theory.proofs.Compare.{ne_false, eq_true, lt_true, lt_false, le_true, le_false}
-use Rattle.second_plan.proofs.grid.timed.Goals as goal
+use Rattle.second_plan.proofs.grid.in_seconds.Goals as goal
 
 pub unreachable-requires : goal.unreachable-requires
 unreachable-requires c =
-    let a = c.args.artery.now in let t = c.args.timing.now in
+    let a = c.args.artery.now in let t = c.args.base.now in
     c.in-None.ensures.none
-    (is_timing a t c.args.rounded.now.seconds c.args.rounded.now.offsets.items c.args.pairs.outbound.first c.args.pairs.outbound.band c.args.pairs.inbound.first c.args.pairs.inbound.band
-    c.known_valid.ensures c.count.ensures.plan c.requires.fine c.requires.rounded.some c.requires.shape (subst (λ xs. All (λ p. (1 ≤ p) × (p ≤ 4)) xs) c.patterns.ensures.value c.patterns.ensures.each)
-    c.requires.offsets c.requires.rounded.below c.requires.first_out c.requires.band_out c.requires.first_in c.requires.band_in
+    (of_base a t c.args.rounded.now.seconds c.args.rounded.now.offsets.items
+    c.known_valid.ensures c.count.ensures.formed c.requires.fine c.requires.rounded.some c.requires.shape
+    (subst (λ xs. All (λ p. (1 ≤ p) × (p ≤ 4)) xs) c.patterns.ensures.value c.patterns.ensures.each)
+    c.requires.offsets c.requires.rounded.below
     _ _ _ _ _ _
     (parts_of a t c.args.rounded.now.seconds c.args.rounded.now.offsets.items c.grid-grid.ensures.value c.unit-unit.ensures.value (c.in_ok-patterns.ensures.items ∙ c.patterns.ensures.value)
     (c.in_ok-reds.ensures ∙ ap₂ (λ g xs. map (λ offset. offset * g) xs) c.grid-grid.ensures.value c.as_slice.ensures.value)
@@ -20,9 +21,9 @@ unreachable-requires c =
 
 pub returns : goal.returns
 returns c =
-    let a = c.args.artery.now in let t = c.args.timing.now in
+    let a = c.args.artery.now in let t = c.args.base.now in
     c.in-Some.ensures.value
-    ∙ plan_is a t c.args.rounded.now.seconds c.args.rounded.now.offsets.items c.args.pairs.outbound.first c.args.pairs.outbound.band c.args.pairs.inbound.first c.args.pairs.inbound.band
+    ∙ base_is a t c.args.rounded.now.seconds c.args.rounded.now.offsets.items
     _ _ _ _ _ _
     (parts_of a t c.args.rounded.now.seconds c.args.rounded.now.offsets.items c.grid-grid.ensures.value c.unit-unit.ensures.value (c.in_ok-patterns.ensures.items ∙ c.patterns.ensures.value)
     (c.in_ok-reds.ensures ∙ ap₂ (λ g xs. map (λ offset. offset * g) xs) c.grid-grid.ensures.value c.as_slice.ensures.value)

@@ -1,12 +1,12 @@
 use Rattle.std.proofs.Common.{◌∙◌, ◌*◌, map, ap, subst}
 use Rattle.std.specs.Prelude.{All, ◌<◌, ◌≤◌, ◌^◌}
 use Rattle.whole_offsets.proofs.Sizes.{scale_held}
-use Rattle.whole_offsets.proofs.Timings.{listed_as, frame_is}
-use Rattle.whole_offsets.proofs.frames.frame.Goals as goal
+use Rattle.whole_offsets.proofs.Timings.{listed_as, on_offsets_is}
+use Rattle.whole_offsets.proofs.bases.on_offsets.Goals as goal
 
 pub unreachable-requires : goal.unreachable-requires
 unreachable-requires c =
-    let a = c.args.artery.now in let t = c.args.timing.now in let k = c.args.rounded.now.seconds in
+    let a = c.args.artery.now in let t = c.args.base.now in let k = c.args.rounded.now.seconds in
     c.in-None.ensures.none
     (listed_as a t k c.args.rounded.now.offsets.items c.args.scale.grid c.args.scale.unit
     (scale_held a t c.known_valid.ensures c.requires.base k c.requires.scale.some c.args.scale.grid c.args.scale.unit c.requires.scale)
@@ -23,7 +23,7 @@ unreachable-requires c =
 pub returns : goal.returns
 returns c =
     c.in-Some.ensures.value
-    ∙ frame_is c.args.timing.now c.args.rounded.now.offsets.items c.args.scale.grid c.args.scale.unit
+    ∙ on_offsets_is c.args.base.now c.args.rounded.now.offsets.items c.args.scale.grid c.args.scale.unit
     _ _ _ _
     (c.in_ok-patterns.ensures.items ∙ c.patterns.ensures.value)
     (c.in_ok-reds.ensures ∙ ap (map (λ offset. offset * c.args.scale.grid)) c.as_slice.ensures.value)

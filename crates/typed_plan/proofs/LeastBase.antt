@@ -1,4 +1,4 @@
--- The numbers of the least timing are those of a timing that the program can hold.
+-- The numbers of the least base are those of a base that the program can hold.
 use Rattle.std.proofs.Common.{◌≡◌, ℕ, ◌+◌, ◌-◌, ◌*◌, ◌^◌, ◌<◌, ◌≤◌, pos, List, length, map, refl, sym, ◌∙◌, ap, subst, arith}
 use Rattle.std.specs.Prelude.{None, All}
 use Rattle.std.proofs.Math.Nat.{mul-le-mul_right}
@@ -8,14 +8,14 @@ use Rattle.progression.specs.Street.{Street, count}
 use Rattle.progression.specs.declared.parts.Dir.{Dir}
 use Rattle.progression.specs.declared.parts.Dir.TheVariants.{Outbound, Inbound}
 use Rattle.artery_model.specs.Valid.{IsValid}
-use Rattle.time_space.specs.Timing.{IsTiming, plan_of}
+use Rattle.time_space.specs.Timing.{AreOfBase, base_of}
 use Rattle.description_reader.specs.Typed.{Typed, IsTyped}
 use Rattle.typed_plan.specs.Counts.{HasCounts}
-use Rattle.typed_plan.specs.Grid.{AreLeast, least_grid, least_unit, red_tick, runs, size, too_fine, frame}
+use Rattle.typed_plan.specs.Grid.{AreLeast, least_grid, least_unit, red_tick, runs, size, too_fine, least_base}
 use Rattle.typed_plan.specs.declared.times.Times.TheVariants.{Run}
 use Rattle.typed_plan.proofs.Fine.{is_fine}
 use Rattle.typed_plan.proofs.Forward.{begun}
-use Rattle.typed_plan.proofs.LeastTiming.{grid_above, unit_least}
+use Rattle.typed_plan.proofs.LeastGrid.{grid_above, unit_least}
 
 pub record AreParts (a : Street) (p : Typed) (grid unit : ℕ) (patterns reds run_out run_in : List ℕ) : Type 0 where
   pub grid_is : grid ≡ least_grid a p
@@ -46,23 +46,19 @@ one_back : (n : ℕ) → 1 ≤ n → n - 1 + 1 ≡ n
 one_back n h = omega arith
 
 module _ (a : Street) (p : Typed) (grid unit : ℕ) (patterns reds run_out run_in : List ℕ) (h : AreParts a p grid unit patterns reds run_out run_in) where
-  pub framed_is : plan_of grid unit patterns reds run_out run_in 0 0 0 0 ≡ frame a p
-  framed_is = λ i. record {
+  pub base_is : base_of grid unit patterns reds run_out run_in ≡ least_base a p
+  base_is = λ i. record {
     grid = h.grid_is i;
     unit = h.unit_is i;
     patterns = h.patterns_are i;
     reds = map pos (h.reds_are i);
     run_out = h.run_out_are i;
     run_in = h.run_in_are i;
-    first_out = pos 0;
-    first_in = pos 0;
-    band_out = 0;
-    band_in = 0;
   }
 
   module _ (valid : IsValid a) (typed : IsTyped p) (counts : HasCounts a p) (fine : too_fine a p ≡ None) (small : All (λ n. n < 2 ^ 80) reds) where
-    pub framed_timing : IsTiming grid unit patterns reds run_out run_in 0 0 0 0
-    framed_timing =
+    pub of_base : AreOfBase grid unit patterns reds run_out run_in
+    of_base =
         let parts : 1 ≤ a.head.parts = let l = valid.least_parts in omega (arith, l) in
         let few : 1 ≤ count a = let l = valid.few in omega (arith, l) in
         let limits = is_fine a p fine in
@@ -85,8 +81,4 @@ module _ (a : Street) (p : Typed) (grid unit : ℕ) (patterns reds run_out run_i
           reds_each = small;
           run_out_each = subst AllSmall (sym h.run_out_are) limits.out;
           run_in_each = subst AllSmall (sym h.run_in_are) limits.back;
-          first_out_most = omega arith;
-          first_in_most = omega arith;
-          band_out_most = omega arith;
-          band_in_most = omega arith;
         }

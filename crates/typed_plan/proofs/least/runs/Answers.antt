@@ -5,7 +5,7 @@ use Rattle.typed_plan.specs.declared.times.Times.TheVariants.{Run}
 use Rattle.typed_plan.proofs.First.{numbered_next}
 use Rattle.typed_plan.proofs.Fine.{is_fine}
 use Rattle.std.proofs.lemmas.Grind.{common_steps}
-use Rattle.typed_plan.proofs.frame.runs.Goals as goal
+use Rattle.typed_plan.proofs.least.runs.Goals as goal
 
 pub size-requires-clause-small : goal.size-requires-clause-small
 size-requires-clause-small c = subst (λ n. n < 2 ^ 80) (sym c.requires.grid) (is_fine c.args.artery.now c.args.plan.now c.requires.fine).grid

@@ -4,7 +4,7 @@ use Rattle.progression.specs.Columns.{numbered}
 use Rattle.typed_plan.specs.Grid.{red_tick}
 use Rattle.typed_plan.proofs.First.{numbered_next, all_next}
 use Rattle.std.proofs.lemmas.Grind.{common_steps}
-use Rattle.typed_plan.proofs.frame.reds.Goals as goal
+use Rattle.typed_plan.proofs.least.reds.Goals as goal
 
 pub loop-place-preserved : goal.loop-place-preserved
 loop-place-preserved c =

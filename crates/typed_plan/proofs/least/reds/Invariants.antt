@@ -2,7 +2,7 @@ use Rattle.std.proofs.Common.{◌≡◌, ◌<◌, ◌^◌}
 use Rattle.std.specs.Prelude.{All}
 use Rattle.progression.specs.Columns.{numbered}
 use Rattle.typed_plan.specs.Grid.{red_tick}
-use Rattle.typed_plan.proofs.frame.reds.Given as goal
+use Rattle.typed_plan.proofs.least.reds.Given as goal
 
 -- the reds so far
 abbrev pub invariant-loop-place : goal.invariant-loop-place

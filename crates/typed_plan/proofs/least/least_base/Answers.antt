@@ -1,11 +1,11 @@
 use Rattle.std.proofs.Common.{◌<◌, ◌^◌, sym, subst, ◌∙◌}
-use Rattle.typed_plan.proofs.Framed.{are_least, parts_of, framed_is, framed_timing, least_sizes}
-use Rattle.typed_plan.proofs.frame.frame.Goals as goal
+use Rattle.typed_plan.proofs.LeastBase.{are_least, parts_of, base_is, of_base, least_sizes}
+use Rattle.typed_plan.proofs.least.least_base.Goals as goal
 
 pub unreachable-requires : goal.unreachable-requires
 unreachable-requires c =
     c.in-None.ensures.none
-    (framed_timing c.args.artery.now c.args.plan.now _ _ _ _ _ _
+    (of_base c.args.artery.now c.args.plan.now _ _ _ _ _ _
     (parts_of c.args.artery.now c.args.plan.now c.requires.grid c.size-unit.ensures.value (c.in_ok-patterns.ensures.items ∙ c.patterns.ensures.value)
     c.in_ok-reds.ensures.value c.in_ok-run_out.ensures c.in_ok-run_in.ensures)
     c.known_valid.ensures c.known_within.ensures c.requires.counts c.requires.fine c.in_ok-reds.ensures.small)
@@ -13,7 +13,7 @@ unreachable-requires c =
 pub returns : goal.returns
 returns c =
     c.in-Some.ensures.value
-    ∙ framed_is c.args.artery.now c.args.plan.now _ _ _ _ _ _
+    ∙ base_is c.args.artery.now c.args.plan.now _ _ _ _ _ _
     (parts_of c.args.artery.now c.args.plan.now c.requires.grid c.size-unit.ensures.value (c.in_ok-patterns.ensures.items ∙ c.patterns.ensures.value)
     c.in_ok-reds.ensures.value c.in_ok-run_out.ensures c.in_ok-run_in.ensures)
 

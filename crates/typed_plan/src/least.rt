@@ -1,10 +1,10 @@
-//! The least timing of a plan, without bands.
+//! The least base of a plan.
 
 ghost use Rattle.std.specs.Prelude.{◌≡◌, ◌*◌, ◌<◌, ◌≤◌, ◌^◌, None, All, IfOk, pos, ◌+ℤ◌, ◌-ℤ◌, ◌≤ℤ◌, unsigned_abs};
 ghost use Rattle.std.specs.Int.{int_min};
-ghost use Rattle.progression.specs.{Columns.{numbered}, Green.{mod_ℤ}, Street.{count}};
+ghost use Rattle.progression.specs.{Columns.{numbered}, Green.{mod_ℤ}, Street.{count, HasSignal}};
 ghost use Rattle.typed_plan.specs.Counts.{HasCounts};
-ghost use Rattle.typed_plan.specs.Grid.{AreLeast, start_part, end_part, moment_part, lead, least_grid, least_unit, red_tick, runs, too_fine, frame};
+ghost use Rattle.typed_plan.specs.Grid.{AreLeast, start_part, end_part, moment_part, lead, least_grid, least_unit, red_tick, runs, too_fine, least_base};
 
 use crate::grid::{product, size, ticks};
 use crate::times::{Times, time};
@@ -12,9 +12,9 @@ use artery_model::{Artery, Dir};
 use description_reader::{Reference, TypedPlan};
 use narrow_fraction::Memory;
 use std::alloc::Global;
-use time_space::{Timing, is_early};
+use time_space::{Base, is_early};
 
-/// The ticks of a timing in a second, and in a part.
+/// The ticks of a base in a second, and in a part.
 #[derive(Clone, Copy)]
 struct Scale {
     grid: u128,
@@ -24,8 +24,7 @@ struct Scale {
 /// Where the red of a direction starts under a pattern, in parts after the start of the common red: before that where the left turn
 /// against the direction lags.
 fn start_part(artery: &Artery, dir: Dir, pattern: u32, signal: u32) -> i32
-    requires first { 1 ≤ signal }
-    requires last { signal ≤ count artery.now }
+    requires signal { HasSignal artery.now signal }
     ensures value { result ≡ start_part artery.now dir pattern signal }
     ensures late { result ≤ℤ pos 0 }
     ensures near { unsigned_abs result < 3600 }
@@ -39,8 +38,7 @@ fn start_part(artery: &Artery, dir: Dir, pattern: u32, signal: u32) -> i32
 
 /// Where it ends.
 fn end_part(artery: &Artery, dir: Dir, pattern: u32, signal: u32) -> i32
-    requires first { 1 ≤ signal }
-    requires last { signal ≤ count artery.now }
+    requires signal { HasSignal artery.now signal }
     ensures value { result ≡ end_part artery.now dir pattern signal }
     ensures near { unsigned_abs result < 3600 }
 {
@@ -49,8 +47,7 @@ fn end_part(artery: &Artery, dir: Dir, pattern: u32, signal: u32) -> i32
 
 /// Where the red ends that ends first.
 fn first_end(artery: &Artery, pattern: u32, signal: u32) -> i32
-    requires first { 1 ≤ signal }
-    requires last { signal ≤ count artery.now }
+    requires signal { HasSignal artery.now signal }
     ensures value { result ≡ int_min (end_part artery.now Dir.Outbound pattern signal) (end_part artery.now Dir.Inbound pattern signal) }
     ensures near { unsigned_abs result < 3600 }
 {
@@ -61,8 +58,7 @@ fn first_end(artery: &Artery, pattern: u32, signal: u32) -> i32
 
 /// Where the moment lies from which an offset counts, in parts after the start of the common red.
 fn moment_part(artery: &Artery, reference: Reference, pattern: u32, signal: u32) -> i32
-    requires first { 1 ≤ signal }
-    requires last { signal ≤ count artery.now }
+    requires signal { HasSignal artery.now signal }
     ensures value { result ≡ moment_part artery.now reference pattern signal }
     ensures near { unsigned_abs result < 3600 }
 {
@@ -81,8 +77,7 @@ fn lead(artery: &Artery, plan: &TypedPlan, unit: u128, signal: u32) -> i128
     requires counts { HasCounts artery.now plan.now }
     requires unit { unit ≡ least_unit artery.now plan.now }
     requires small { unit < 2 ^ 80 }
-    requires first { 1 ≤ signal }
-    requires last { signal ≤ count artery.now }
+    requires signal { HasSignal artery.now signal }
     ensures value { result ≡ lead artery.now plan.now signal }
     ensures near { unsigned_abs result < 2 ^ 110 }
 {
@@ -137,8 +132,7 @@ fn cycle(artery: &Artery, unit: u128) -> u128
 fn red_tick(artery: &Artery, plan: &TypedPlan, scale: Scale, signal: u32) -> u128
     requires counts { HasCounts artery.now plan.now }
     requires least { AreLeast artery.now plan.now scale.grid scale.unit }
-    requires first { 1 ≤ signal }
-    requires last { signal ≤ count artery.now }
+    requires signal { HasSignal artery.now signal }
     ensures value { result ≡ red_tick artery.now plan.now signal }
     ensures small { result < 2 ^ 80 }
 {
@@ -183,12 +177,17 @@ fn runs(
     Ok(runs)
 }
 
-/// The least timing of a plan, its firsts and bands 0.
-pub fn frame(alloc: Global, artery: &Artery, plan: &TypedPlan, grid: u128) -> Result<Timing, Memory>
+/// The least base of a plan.
+pub fn least_base(
+    alloc: Global,
+    artery: &Artery,
+    plan: &TypedPlan,
+    grid: u128,
+) -> Result<Base, Memory>
     requires counts { HasCounts artery.now plan.now }
     requires grid { grid ≡ least_grid artery.now plan.now }
     requires fine { too_fine artery.now plan.now ≡ None }
-    ensures { IfOk result (λ t. t ≡ frame artery.now plan.now) }
+    ensures { IfOk result (λ b. b ≡ least_base artery.now plan.now) }
 {
     artery.known_valid();
     plan.known_within();
@@ -198,8 +197,8 @@ pub fn frame(alloc: Global, artery: &Artery, plan: &TypedPlan, grid: u128) -> Re
     let reds = reds(alloc, artery, plan, scale)?;
     let run_out = runs(alloc, artery, plan, grid, Dir::Outbound)?;
     let run_in = runs(alloc, artery, plan, grid, Dir::Inbound)?;
-    match Timing::new(grid, unit, patterns, reds, run_out, run_in, 0, 0, 0, 0) {
-        Some(timing) => Ok(timing),
+    match Base::new(grid, unit, patterns, reds, run_out, run_in) {
+        Some(base) => Ok(base),
         None => unreachable!(),
     }
 }
