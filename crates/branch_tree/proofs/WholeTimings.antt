@@ -10,7 +10,6 @@ use Rattle.certificate_model.specs.declared.certificate.Claim.{Claim}
 use Rattle.certificate_model.specs.declared.certificate.Claim.TheVariants.{Best, NoTiming, Stopped}
 use Rattle.named_row.specs.declared.leaves.Leaf.{Leaf}
 use Rattle.certificate_checker.specs.Accepted.{value_of, limit_of, IsTimed, IsBoundAbove, AreProofs, IsAccepted}
-use Rattle.certificate_checker.specs.Claims.{ClaimHolds}
 use Rattle.branch_and_bound.specs.Answer.{IsSite}
 use Rattle.branch_and_bound.specs.Lines.{BoxLine}
 use Rattle.branch_and_bound.specs.Rules.{IsMet}
@@ -19,7 +18,7 @@ use Rattle.branch_tree.specs.declared.site.SitePart.{SitePart}
 use Rattle.branch_tree.specs.ArteryProgram.{program_of}
 use Rattle.branch_tree.specs.ArteryRules.{rules_of}
 use Rattle.branch_tree.specs.Ends.{end_leaf}
-use Rattle.branch_tree.specs.Kinds.{CanBeSought, ClaimHoldsOf}
+use Rattle.branch_tree.specs.Kinds.{CanBeSought}
 use Rattle.branch_tree.specs.Relaxed.{IsStartLeaf}
 use Rattle.branch_tree.specs.SiteNames.{IsSiteOf}
 use Rattle.branch_tree.specs.WholeBands.{whole_bands}
@@ -46,7 +45,7 @@ accepted_by a c timing bound tree = record { timing = timing; bound = bound; tre
 
 pub can_be_sought : (a : Street) → IsValid a → CanBeSought (whole_bands a)
 can_be_sought a v = record {
-  good = λ plan value g. g;
+  good = λ timing value g. g;
   ends_kept = leaf_kept a v;
   start_kept = first_kept a v;
   sited = site_named a;
@@ -54,9 +53,3 @@ can_be_sought a v = record {
   proved = leaf_proof a;
   accepted = accepted_by a;
 }
-
--- what a claim of an artery's certificates says
-pub claim_holds : (a : Street) (claim : Claim) (timing : Option TimingRecord) → ClaimHolds a claim timing → ClaimHoldsOf (whole_bands a) claim timing
-claim_holds a (Best value) timing h = h
-claim_holds a NoTiming timing h = h
-claim_holds a (Stopped bound value) timing h = h

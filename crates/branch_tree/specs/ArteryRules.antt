@@ -25,12 +25,14 @@ meaning_of a = record {
   IsGood = IsTiming a;
   Refutes = RefutesBox a;
   Covers = CoversBox a;
-  covers_more = covers_more a;
-  not_refuted = not_refuted a;
-  inside = inside a;
-  has_numbers = has_numbers a;
-  low_falls = low_falls a;
-  high_falls = high_falls a;
+  laws = record {
+    covers_more = covers_more a;
+    not_refuted = not_refuted a;
+    inside = inside a;
+    has_numbers = has_numbers a;
+    low_falls = low_falls a;
+    high_falls = high_falls a;
+  };
 }
 
 -- ---- the relaxation

@@ -13,7 +13,7 @@ use Rattle.fraction_tableau.specs.declared.wide_cell.WideCell.{WideCell}
 use Rattle.branch_and_bound.specs.Choices.{HasNumbers}
 use Rattle.branch_and_bound.specs.Lines.{BoxLine, low_line, high_line}
 use Rattle.branch_and_bound.specs.Lineages.{Empty, Reads, Cuts, IsOptimal, IsLineage}
-use Rattle.branch_and_bound.specs.Rules.{Rules}
+use Rattle.branch_and_bound.specs.Rules.{Rules, Laws}
 use Rattle.branch_tree.specs.declared.site.SitePart.{SitePart}
 use Rattle.branch_tree.specs.declared.site.SitePart.TheVariants.{Ratio, Cell, LeafSum}
 use Rattle.branch_tree.specs.Program.{Program, Gives}
@@ -36,13 +36,7 @@ pub record Meaning {T W : Type 0} (K : Type 0) (p : Program T W) : Type 1 where
   -- a leaf shows that its box holds no timing; or none of a greater value than this
   pub Refutes : Area → Leaf → Type 0
   pub Covers : Area → Leaf → ℚ → Type 0
-  -- ---- laws
-  pub covers_more : (area : Area) (leaf : Leaf) (value more : ℚ) → Covers area leaf value → value ≤ℚ more → Covers area leaf more
-  pub not_refuted : (line : BoxLine) (leaf : Leaf) → IsLineage IsSound root (ending_of p) line → IsOptimal (ending_of p line) → IsEndLeaf p line leaf → Refutes line.area leaf → ⊥
-  pub inside : (line : BoxLine) (place : At) → IsLineage IsSound root (ending_of p) line → ending_of p line ≡ Cuts place → IsPlace line.area place
-  pub has_numbers : (line : BoxLine) (place : At) → IsLineage IsSound root (ending_of p) line → ending_of p line ≡ Cuts place → HasNumbers line.area
-  pub low_falls : (line : BoxLine) (place : At) → IsLineage IsSound root (ending_of p) line → ending_of p line ≡ Cuts place → IsOptimal (ending_of p (low_line place line)) → end_bound p (low_line place line) ≤ℚ end_bound p line
-  pub high_falls : (line : BoxLine) (place : At) → IsLineage IsSound root (ending_of p) line → ending_of p line ≡ Cuts place → IsOptimal (ending_of p (high_line place line)) → end_bound p (high_line place line) ≤ℚ end_bound p line
+  pub laws : Laws IsSound root (ending_of p) (end_bound p) (IsEndLeaf p) Refutes Covers
 
 -- the relaxation, searched along lines of boxes
 abbrev pub rules_from : {T K W : Type 0} (p : Program T W) → Meaning K p → Rules T K W
@@ -62,12 +56,7 @@ rules_from p m = record {
   IsWide = IsWide p;
   Refutes = m.Refutes;
   Covers = m.Covers;
-  covers_more = m.covers_more;
-  not_refuted = m.not_refuted;
-  inside = m.inside;
-  has_numbers = m.has_numbers;
-  low_falls = m.low_falls;
-  high_falls = m.high_falls;
+  laws = m.laws;
 }
 
 -- What the end of a line proves, where no operation of its leaf's sum is refused, and that no operation of a proof's sum is; what a timing

@@ -16,7 +16,7 @@ IsStartLeaf a leaf = leaf.multipliers.items ≡ start_leaf a
 
 -- the timing is good, and has the value
 abbrev pub IsTiming : Street → TimingRecord → ℚ → Type 0
-IsTiming a plan value = Good a plan × (weighted_band a plan ≡ value)
+IsTiming a t value = Good a t × (weighted_band a t ≡ value)
 
 -- what the checker of certificates accepts as a leaf
 abbrev pub RefutesBox : Street → Area → Leaf → Type 0

@@ -6,7 +6,7 @@ ghost use Rattle.linear_theory.specs.Boxes.{IsBoxOf};
 ghost use Rattle.certificate_model.specs.Warrants.{IsCertificate};
 ghost use Rattle.branch_tree.specs.Certified.{warrant_from};
 
-use crate::copying::copied_plan;
+use crate::copying::copied_timing;
 use crate::kept::Kept;
 use crate::program::{Read, Summed};
 use crate::room::Room;
@@ -151,7 +151,7 @@ impl<'a> Sought for WholeBands<'a> {
     }
 
     fn copied(&self, alloc: Global, timing: &Timing) -> Result<Timing, Memory> {
-        copied_plan(alloc, timing)
+        copied_timing(alloc, timing)
     }
 
     fn certificate(&self, claim: Claim, timing: Option<Timing>, nodes: Vec<CertNode>) -> Certificate

@@ -91,7 +91,7 @@ fn nodes_of(alloc: Global, nodes: &[TreeNode]) -> Result<Vec<CertNode>, Memory>
 
 /// What a timing is worth, where there is one.
 fn worth_of<S: Sought>(sought: &S, timing: &Option<S::Timing>) -> Option<Frac>
-    ensures { result ≡ option_map (S.kind sought.now).worth timing.now }
+    ensures { result ≡ option_map (S.kind sought.now).objective.worth timing.now }
 {
     match timing {
         Some(timing) => Some(sought.worth(timing)),
@@ -121,8 +121,8 @@ pub fn certificate_for<S: Sought>(
     found: &FoundOf<S::Timing>,
 ) -> Result<S::Certificate, Memory>
     requires { IsCertifiableIn (S.kind sought.now).names found.now }
-    ensures certificate { IfOk result (λ certificate. S.warrant certificate ≡ warrant_by (S.kind sought.now).worth found.now) }
-    ensures accepted { IfOk result (λ certificate. (limit : Option ℕ) → IsAnswered (rules_from (S.program sought.now) (S.meaning sought.now)) (S.kind sought.now).worth limit found.now
+    ensures certificate { IfOk result (λ certificate. S.warrant certificate ≡ warrant_by (S.kind sought.now).objective.worth found.now) }
+    ensures accepted { IfOk result (λ certificate. (limit : Option ℕ) → IsAnswered (rules_from (S.program sought.now) (S.meaning sought.now)) (S.kind sought.now).objective.worth limit found.now
         → (S.kind sought.now).IsAccepted (S.warrant certificate)) }
 {
     // its contract says which certificates are accepted

@@ -36,9 +36,9 @@ pub fn search_and_confirm<S: Sought>(
 ) -> Result<SearchedOf<S::Timing, S::Certificate>, Memory>
     requires { IsBelow 0 limit }
     ensures searched { IfOk result (λ s. IsSearchedOf (S.kind sought.now) limit s.found) }
-    ensures certificate { IfOk result (λ s. S.warrant s.certificate ≡ warrant_by (S.kind sought.now).worth s.found) }
+    ensures certificate { IfOk result (λ s. S.warrant s.certificate ≡ warrant_by (S.kind sought.now).objective.worth s.found) }
     ensures timed { IfOk result (λ s. IsTimed s.found.timing s.found.verdict) }
-    ensures good { IfOk result (λ s. IfSome s.found.timing (λ timing. (S.kind sought.now).IsGood timing)) }
+    ensures good { IfOk result (λ s. IfSome s.found.timing (λ timing. (S.kind sought.now).objective.IsGood timing)) }
 {
     let found = search_sought(alloc, sought, limit)?;
     let certificate = certificate_for(alloc, sought, &found)?;
@@ -57,7 +57,7 @@ pub fn search_and_check(
     ensures searched { IfOk result (λ s. IsSearched artery.now limit s.found) }
     ensures certificate { IfOk result (λ s. s.certificate ≡ warrant_of artery.now s.found) }
     ensures timed { IfOk result (λ s. IsTimed s.found.timing s.found.verdict) }
-    ensures good { IfOk result (λ s. IfSome s.found.timing (λ plan. Good artery.now plan)) }
+    ensures good { IfOk result (λ s. IfSome s.found.timing (λ t. Good artery.now t)) }
 {
     search_and_confirm(alloc, &WholeBands { artery }, limit)
 }

@@ -1,21 +1,13 @@
 //! Copies.
 
-ghost use Rattle.std.specs.Prelude.{◌≡◌, IfOk};
+ghost use Rattle.std.specs.Prelude.{◌≡◌, ◌<◌, ◌^◌, pos, IfOk};
+ghost use Rattle.progression.specs.TimingRecord.{first};
 
 use named_row::Leaf;
 use narrow_fraction::Memory;
 use progression::Dir;
 use std::alloc::Global;
-use time_space::Timing;
-
-/// The same items again. The error is want of memory.
-pub fn copied<T: Copy>(alloc: Global, items: &[T]) -> Result<Vec<T>, Memory>
-    ensures { IfOk result (λ copy. copy.items ≡ items.now) }
-{
-    let mut copy = Vec::new(alloc);
-    copy.extend_from_slice(items)?;
-    Ok(copy)
-}
+use time_space::{Timing, copied};
 
 /// The same leaf again.
 pub fn copied_leaf(alloc: Global, leaf: &Leaf) -> Result<Leaf, Memory>
@@ -25,27 +17,22 @@ pub fn copied_leaf(alloc: Global, leaf: &Leaf) -> Result<Leaf, Memory>
     Ok(Leaf { multipliers })
 }
 
+/// Where the first line of a direction crosses, in ticks.
+fn first_of(timing: &Timing, dir: Dir) -> u128
+    ensures value { first timing.now dir ≡ pos result }
+    ensures most { result < 2 ^ 80 }
+{
+    timing.first(dir).unsigned_abs()
+}
+
 /// The same timing again.
-pub fn copied_plan(alloc: Global, timing: &Timing) -> Result<Timing, Memory>
+pub fn copied_timing(alloc: Global, timing: &Timing) -> Result<Timing, Memory>
     ensures { IfOk result (λ copy. copy ≡ timing.now) }
 {
-    let patterns = copied(alloc, timing.patterns())?;
-    let reds = copied(alloc, timing.reds())?;
-    let run_out = copied(alloc, timing.run_out())?;
-    let run_in = copied(alloc, timing.run_in())?;
-    match Timing::new(
-        timing.grid(),
-        timing.unit(),
-        patterns,
-        reds,
-        run_out,
-        run_in,
-        timing.first(Dir::Outbound) as u128,
-        timing.first(Dir::Inbound) as u128,
-        timing.band(Dir::Outbound),
-        timing.band(Dir::Inbound),
-    ) {
-        Some(copy) => Ok(copy),
-        None => unreachable!(),
-    }
+    let base = timing.base().copied(alloc)?;
+    let first_out = first_of(timing, Dir::Outbound);
+    let first_in = first_of(timing, Dir::Inbound);
+    let band_out = timing.band(Dir::Outbound);
+    let band_in = timing.band(Dir::Inbound);
+    Ok(base.banded(first_out, band_out, first_in, band_in))
 }

@@ -51,7 +51,6 @@ mod starting;
 
 pub use certifying::{certificate_for, certificate_of, value_of};
 pub use checked::{Searched, SearchedOf, search_and_check, search_and_confirm};
-pub use copying::copied;
 pub use found::{Found, FoundOf, Site, Stop, TreeNode, Verdict};
 pub use kept::Kept;
 pub use laws::{law_boxes_end, law_trees_are_proofs};
@@ -60,3 +59,4 @@ pub use room::Room;
 pub use searching::{search, search_sought};
 pub use site::SitePart;
 pub use sought::Sought;
+pub use time_space::copied;

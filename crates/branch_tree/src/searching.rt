@@ -28,9 +28,9 @@ pub fn search_sought<S: Sought>(
     limit: Option<u64>,
 ) -> Result<FoundOf<S::Timing>, Memory>
     requires limit { IsBelow 0 limit }
-    ensures answer { IfOk result (λ found. IsAnswered (rules_from (S.program sought.now) (S.meaning sought.now)) (S.kind sought.now).worth limit found) }
-    ensures good { IfOk result (λ found. IfSome found.timing (λ timing. (S.kind sought.now).IsGood timing)) }
-    ensures tells { IfOk result (λ found. TellsOf (S.kind sought.now).worth found.timing found.bound found.verdict) }
+    ensures answer { IfOk result (λ found. IsAnswered (rules_from (S.program sought.now) (S.meaning sought.now)) (S.kind sought.now).objective.worth limit found) }
+    ensures good { IfOk result (λ found. IfSome found.timing (λ timing. (S.kind sought.now).objective.IsGood timing)) }
+    ensures tells { IfOk result (λ found. TellsOf (S.kind sought.now).objective.worth found.timing found.bound found.verdict) }
     ensures certifiable { IfOk result (λ found. IsCertifiableIn (S.kind sought.now).names found) }
     ensures site { IfOk result (λ found. EndsAt (S.kind sought.now).IsSite found.verdict) }
     ensures enough { IfOk result (λ found. IsWithin (enough_for (S.meaning sought.now).root (S.kind sought.now).sets) limit found.verdict) }
@@ -49,7 +49,7 @@ pub fn search_sought<S: Sought>(
 pub fn search(alloc: Global, artery: &Artery, limit: Option<u64>) -> Result<Found, Memory>
     requires limit { IsBelow 0 limit }
     ensures answer { IfOk result (λ found. IsSearch artery.now limit found) }
-    ensures good { IfOk result (λ found. IfSome found.timing (λ plan. Good artery.now plan)) }
+    ensures good { IfOk result (λ found. IfSome found.timing (λ t. Good artery.now t)) }
     ensures tells { IfOk result (λ found. Tells artery.now found.timing found.bound found.verdict) }
     ensures certifiable { IfOk result (λ found. IsCertifiable found) }
     ensures site { IfOk result (λ found. HasSite artery.now found.verdict) }

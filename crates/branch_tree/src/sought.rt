@@ -9,7 +9,8 @@ ghost use Rattle.certificate_model.specs.Warrants.{WarrantWith, IsCertificateIn}
 ghost use Rattle.branch_and_bound.specs.{Lines.{BoxLine, top_line}, OpenedNodes.{IsPart}};
 ghost use Rattle.branch_tree.specs.{declared.site.SitePart.{SitePart}, Program.{Program}, Meaning.{Meaning, EndsProve, rules_from}};
 ghost use Rattle.branch_tree.specs.{Ends.{end_leaf, end_move, end_point, named_first}, BoxRuns.{IsSummed, outcome_by, table_of}};
-ghost use Rattle.branch_tree.specs.{Certified.{warrant_from}, Kinds.{Kind, CanBeSought, ClaimHoldsOf}, Rooms.{IsRoomFor}};
+ghost use Rattle.certificate_checker.specs.Claims.{ClaimHoldsBy};
+ghost use Rattle.branch_tree.specs.{Certified.{warrant_from}, Kinds.{Kind, CanBeSought}, Rooms.{IsRoomFor}};
 
 use crate::program::{Read, Summed};
 use crate::room::Room;
@@ -122,7 +123,7 @@ pub trait Sought: Drop {
 
     /// What a timing is worth.
     fn worth(&self, timing: &Self::Timing) -> Frac
-        ensures { result ≡ (kind self.now).worth timing.now };
+        ensures { result ≡ (kind self.now).objective.worth timing.now };
 
     /// The same timing again.
     fn copied(&self, alloc: Global, timing: &Self::Timing) -> Result<Self::Timing, Memory>
@@ -141,5 +142,5 @@ pub trait Sought: Drop {
     /// Checks a certificate that can't be refused.
     fn confirm(&self, alloc: Global, certificate: &Self::Certificate) -> Result<(), Memory>
         requires { (kind self.now).IsAccepted (warrant certificate.now) }
-        ensures { OnOk result (ClaimHoldsOf (kind self.now) (warrant certificate.now).claim (warrant certificate.now).timing) };
+        ensures { OnOk result (ClaimHoldsBy (kind self.now).objective (warrant certificate.now).claim (warrant certificate.now).timing) };
 }

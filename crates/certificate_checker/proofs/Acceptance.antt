@@ -62,22 +62,22 @@ module _ {T : Type 0} (good : T → Type 0) (worth : T → ℚ) where
 
 -- ---- the whole
 module _ {T F : Type 0} (k : Checked T F) (c : WarrantWith T) where
-  pub accepted_in : HasTiming c.claim c.timing → AreTrees 1 c.nodes → IfThere k.IsGood c.timing → first_refusal k c ≡ None → IsAcceptedOf k c
+  pub accepted_in : HasTiming c.claim c.timing → AreTrees 1 c.nodes → IfThere k.objective.IsGood c.timing → first_refusal k c ≡ None → IsAcceptedOf k c
   accepted_in h tree g e =
       let p = neither _ _ e in
       let q = neither _ _ p.0 in
       record {
-        timing = timed_in k.IsGood k.worth c.claim c.timing h g q.0;
+        timing = timed_in k.objective.IsGood k.objective.worth c.claim c.timing h g q.0;
         bound = bound_in c.claim q.1;
         tree = tree_in k.rows (aim_at k (limit_of c.claim)) 0 0 (k.root ∷ []) c.nodes tree p.1;
       }
 
-  pub accepted_good : IsAcceptedOf k c → IfThere k.IsGood c.timing
-  accepted_good h = good_out k.IsGood k.worth c.timing (value_of c.claim) h.timing
+  pub accepted_good : IsAcceptedOf k c → IfThere k.objective.IsGood c.timing
+  accepted_good h = good_out k.objective.IsGood k.objective.worth c.timing (value_of c.claim) h.timing
 
   pub accepted_out : IsAcceptedOf k c → first_refusal k c ≡ None
   accepted_out h =
-      ap₂ earlier (claim_out k.IsGood k.worth c.claim c.timing h.timing h.bound)
+      ap₂ earlier (claim_out k.objective.IsGood k.objective.worth c.claim c.timing h.timing h.bound)
       (tree_out k.rows (aim_at k (limit_of c.claim)) 0 0 (k.root ∷ []) c.nodes h.tree)
 
   -- where the claim's numbers are not refused, the nodes are left
@@ -89,7 +89,7 @@ module _ {T F : Type 0} (k : Checked T F) (c : WarrantWith T) where
   numbers_first r e = is_first (first_refusal k c) r (ap (λ o. earlier o (nodes_refusal_of k (limit_of c.claim) c.nodes)) e)
 
   -- what the check of the nodes says of the whole, where all else is right
-  pub checked : HasTiming c.claim c.timing → AreTrees 1 c.nodes → IfThere k.IsGood c.timing → numbers_refusal_of k c.claim c.timing ≡ None → (r : Result (Unit {0}) (Reject F))
+  pub checked : HasTiming c.claim c.timing → AreTrees 1 c.nodes → IfThere k.objective.IsGood c.timing → numbers_refusal_of k c.claim c.timing ≡ None → (r : Result (Unit {0}) (Reject F))
       → OnOk r (nodes_refusal_of k (limit_of c.claim) c.nodes ≡ None) → IfErr r (λ x. IsFirst (nodes_refusal_of k (limit_of c.claim) c.nodes) x)
       → OnOk r (IsAcceptedOf k c) × IfErr r (λ x. IsFirstRefusalOf k c x)
   checked h tree g e (Ok x) n f = (accepted_in h tree g (nodes_alone e ∙ n), tt)

@@ -17,8 +17,8 @@ use Rattle.certificate_checker.proofs.NodeRefusals.{told}
 use Rattle.certificate_checker.proofs.Acceptance.{accepted_in, accepted_out, accepted_good, accepted_of, of_accepted}
 
 -- a failing that is the first rules out that the timing is good
-module _ {T F : Type 0} (k : Checked T F) (out : (t : T) (f : F) → k.FailsFirst t f → ¬ k.IsGood t) where
-  not_good : (timing : Option T) (r : Reject F) → TimingFailsFirst k timing r → IfThere k.IsGood timing → ⊥
+module _ {T F : Type 0} (k : Checked T F) (out : (t : T) (f : F) → k.FailsFirst t f → ¬ k.objective.IsGood t) where
+  not_good : (timing : Option T) (r : Reject F) → TimingFailsFirst k timing r → IfThere k.objective.IsGood timing → ⊥
   not_good None r h g = h
   not_good (Some t) (TimingFails f) h g = out t f h g
   not_good (Some t) r h g = h
@@ -50,7 +50,7 @@ pub record Fits {T F : Type 0} (kind : Street → Checked T F) (Accepts : Street
 
 -- where what is accepted is what is of the kind
 pub fit : {T F : Type 0} (kind : Street → Checked T F) (Accepts : Street → WarrantWith T → Type 0) (table : Table) → ((a : Street) (c : WarrantWith T) → Accepts a c ↔ IsAcceptedOf (kind a) c)
-    → ((a : Street) (t : T) (f : F) → (kind a).FailsFirst t f → ¬ (kind a).IsGood t) → ((a : Street) (t : T) (f g : F) → (kind a).FailsFirst t f → (kind a).FailsFirst t g → f ≡ g)
+    → ((a : Street) (t : T) (f : F) → (kind a).FailsFirst t f → ¬ (kind a).objective.IsGood t) → ((a : Street) (t : T) (f g : F) → (kind a).FailsFirst t f → (kind a).FailsFirst t g → f ≡ g)
     → Fits kind Accepts table
 fit kind Accepts table same out once = record {
   accepted = λ a c h. (

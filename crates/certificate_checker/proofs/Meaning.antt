@@ -6,7 +6,7 @@ use Rattle.rational_theory.specs.Rows.{IsMet}
 use Rattle.progression.specs.Street.{Street}
 use Rattle.progression.specs.TimingRecord.{TimingRecord}
 use Rattle.progression.specs.Good.{Good}
-use Rattle.progression.specs.Best.{weighted_band, Bounded}
+use Rattle.progression.specs.Best.{bands_of, weighted_band, Bounded}
 use Rattle.progression.specs.Columns.{point}
 use Rattle.linear_theory.specs.Boxes.{Area, InBox, IsBoxOf, root_box}
 use Rattle.linear_theory.specs.Counts.{IsStreet}
@@ -29,7 +29,7 @@ use Rattle.certificate_checker.specs.TreeProofs.{ProveAll}
 use Rattle.certificate_checker.specs.Accepted.{IsTimed, Shows, IsProof, AreProofs, IsAccepted, limit_of, value_of}
 use Rattle.search_box.proofs.Parts.{parts_boxed}
 use Rattle.certificate_checker.proofs.LeafMeaning.{IsWithin}
-use Rattle.certificate_checker.specs.Claims.{IsBest, ClaimHolds}
+use Rattle.certificate_checker.specs.Claims.{IsBestBy, ClaimHolds}
 
 -- a box of the artery that holds the timing, and one of several
 abbrev pub HoldsTiming : Street → TimingRecord → Area → Type 0
@@ -78,7 +78,7 @@ module _ (a : Street) (t : TimingRecord) (h : IsStreet a) (g : Good a t) where
       trees_say a t (IsProof a limit) (IsWithin limit (weighted_band a t)) (leaf_says limit) (root_box a ∷ []) ns c
       (inl (root_boxed a (root_box a) (shift_there a t h g) root, root_law a t h g (root_box a) root))
 
-best_timed : (a : Street) (value : ℚ) (timing : Option TimingRecord) → Bounded a value → IsTimed a timing (Some value) → IsBest a timing value
+best_timed : (a : Street) (value : ℚ) (timing : Option TimingRecord) → Bounded a value → IsTimed a timing (Some value) → IsBestBy (bands_of a) timing value
 best_timed a value None b h = h
 best_timed a value (Some t) b h = (record { good = h.0; greatest = subst (Bounded a) (sym h.1) b }, h.1)
 

@@ -14,7 +14,7 @@ use Rattle.certificate_checker.specs.declared.reject.Reject.TheVariants.{Memory}
 module _ {T F : Type 0} (kind : Street → Checked T F) (Accepts : Street → WarrantWith T → Type 0) where
   -- a certificate whose rows have names in the table is accepted exactly where nothing of it is refused
   abbrev pub AcceptedExactlyOf : Table → Type 0
-  AcceptedExactlyOf table = (a : Street) (c : WarrantWith T) → IsCertificateIn table c → Accepts a c ↔ (IfThere (kind a).IsGood c.timing × (first_refusal (kind a) c ≡ None))
+  AcceptedExactlyOf table = (a : Street) (c : WarrantWith T) → IsCertificateIn table c → Accepts a c ↔ (IfThere (kind a).objective.IsGood c.timing × (first_refusal (kind a) c ≡ None))
 
   -- no certificate is both accepted and refused, but for want of memory
   abbrev pub RefusedIsNotAcceptedOf : Type 0

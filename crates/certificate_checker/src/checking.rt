@@ -22,7 +22,7 @@ fn check_timing<K: CheckedKind>(
     kind: &K,
     timing: &Option<K::Timing>,
 ) -> Result<(), Reject<K::Failing>>
-    ensures good { OnOk result (IfThere (K.kind kind.now).IsGood timing.now) }
+    ensures good { OnOk result (IfThere (K.kind kind.now).objective.IsGood timing.now) }
     ensures first { IfErr result (λ reject. TimingFailsFirst (K.kind kind.now) timing.now reject) }
 {
     let Some(timing) = timing else {

@@ -30,12 +30,12 @@ pub trait CheckedKind {
 
     /// Whether a timing is good, or else the rule that it breaks first.
     fn holds(&self, timing: &Self::Timing) -> Result<(), Self::Failing>
-        ensures good { OnOk result ((kind self.now).IsGood timing.now) }
+        ensures good { OnOk result ((kind self.now).objective.IsGood timing.now) }
         ensures first { IfErr result (λ failing. (kind self.now).FailsFirst timing.now failing) };
 
     /// What a timing is worth.
     fn worth(&self, timing: &Self::Timing) -> Frac
-        ensures { result ≡ (kind self.now).worth timing.now };
+        ensures { result ≡ (kind self.now).objective.worth timing.now };
 
     /// The row of that.
     fn goal(&self, alloc: Global) -> Result<Row, Memory>

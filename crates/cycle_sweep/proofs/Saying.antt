@@ -18,8 +18,8 @@ use Rattle.branch_tree.specs.Searches.{incumbent_of}
 use Rattle.branch_tree.specs.ArteryRules.{rules_of}
 use Rattle.branch_tree.specs.Trees.{node_of}
 use Rattle.branch_tree.specs.Certified.{value_of, claim_by}
-use Rattle.branch_tree.specs.Kinds.{ProvesOf}
-use Rattle.branch_tree.specs.WholeBands.{whole_bands}
+use Rattle.branch_tree.specs.Kinds.{ProvesBy}
+use Rattle.progression.specs.Best.{bands_of}
 use Rattle.cycle_sweep.specs.declared.row.SweepRow.TheVariants.{Outside, Searched}
 use Rattle.cycle_sweep.specs.Rows.{at_cycle}
 use Rattle.cycle_sweep.specs.Table.{verdict_text, cause_text, bound_of, cycle_fields, outside_fields, found_fields}
@@ -38,13 +38,13 @@ why_of a limit nodes best bound spent (Wide site) h = tt
 
 pub says_found : (a : Street) (limit : Option ℕ) (tell : Telling) (nodes : List TreeNode) (timing : Option TimingRecord) (bound : ℚ) (spent : ℕ) (verdict : Verdict SitePart)
     → IsAnswer (rules_of a) limit nodes (incumbent_of a timing) bound spent verdict
-    → ProvesOf (whole_bands a) timing bound verdict → IsAccepted a (certificate_of a timing bound verdict nodes)
+    → ProvesBy (bands_of a) timing bound verdict → IsAccepted a (certificate_of a timing bound verdict nodes)
     → SaysFound a limit tell spent verdict (tell (verdict_text verdict) (value_of a timing) (bound_of verdict bound (value_of a timing)) (cause_text verdict))
 says_found a limit tell nodes None bound spent Best s h k = absurd h
-says_found a limit tell nodes (Some plan) bound spent Best s h k = record {
-  plan = plan;
+says_found a limit tell nodes (Some timing) bound spent Best s h k = record {
+  timing = timing;
   best = h.0;
-  certified = record { certificate = certificate_of a (Some plan) bound Best nodes; accepted = k; claim_is = refl; timing_is = refl };
+  certified = record { certificate = certificate_of a (Some timing) bound Best nodes; accepted = k; claim_is = refl; timing_is = refl };
   texts_are = refl;
 }
 says_found a limit tell nodes None bound spent NoTiming s h k = record {
@@ -52,7 +52,7 @@ says_found a limit tell nodes None bound spent NoTiming s h k = record {
   certified = record { certificate = certificate_of a None bound NoTiming nodes; accepted = k; claim_is = refl; timing_is = refl };
   texts_are = refl;
 }
-says_found a limit tell nodes (Some plan) bound spent NoTiming s h k = absurd (none-some plan (sym h.0))
+says_found a limit tell nodes (Some timing) bound spent NoTiming s h k = absurd (none-some timing (sym h.0))
 says_found a limit tell nodes timing bound spent (Stopped stop) s h k = record {
   bound = bound;
   timing = timing;

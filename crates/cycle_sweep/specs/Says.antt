@@ -35,10 +35,10 @@ Telling = List ℕ → Option ℚ → Option ℚ → List ℕ → List (List ℕ
 
 -- `best`: this timing is best, and its weighted band is told twice
 pub record SaysBest (a : Street) (tell : Telling) (texts : List (List ℕ)) : Type 0 where
-  pub plan : TimingRecord
-  pub best : Best a plan
-  pub certified : HasCertificate a (claim.Best (weighted_band a plan)) (Some plan)
-  pub texts_are : texts ≡ tell (codes "best") (Some (weighted_band a plan)) (Some (weighted_band a plan)) dash
+  pub timing : TimingRecord
+  pub best : Best a timing
+  pub certified : HasCertificate a (claim.Best (weighted_band a timing)) (Some timing)
+  pub texts_are : texts ≡ tell (codes "best") (Some (weighted_band a timing)) (Some (weighted_band a timing)) dash
 
 -- `none`: no timing is good
 pub record SaysNone (a : Street) (tell : Telling) (texts : List (List ℕ)) : Type 0 where
@@ -56,7 +56,7 @@ pub record SaysOpen (a : Street) (limit : Option ℕ) (tell : Telling) (spent : 
   pub bound : ℚ
   pub timing : Option TimingRecord
   pub bounded : Bounded a bound
-  pub good : IfSome timing (λ plan. Good a plan × (weighted_band a plan ≤ℚ bound))
+  pub good : IfSome timing (λ t. Good a t × (weighted_band a t ≤ℚ bound))
   pub certified : HasCertificate a (claim.Stopped bound (value_of a timing)) timing
   pub why : IsWhy limit spent stop
   pub texts_are : texts ≡ tell (codes "open") (value_of a timing) (Some bound) (stop_text stop)

@@ -30,12 +30,14 @@ capped_rules a cap = record {
   IsWide = λ line k part. part ≡ k;
   Refutes = λ area leaf. HasNone cap area.loops;
   Covers = λ area leaf v. CoversNumbers cap area.loops v;
-  covers_more = λ area leaf v w h k. λ x p. ≤ℚ_trans (whole x) v w (h x p) k;
-  not_refuted = λ line leaf met o i none. some_number cap line.area.loops o none;
-  inside = λ line place met e. inside_of cap line.area.loops line.area.turns place e;
-  has_numbers = λ line place met e. has_numbers_of cap line.area.loops line.area.turns place e;
-  low_falls = λ line place met e o. low_falls_of cap line.area.loops line.area.turns place e;
-  high_falls = λ line place met e o. high_falls_of cap line.area.loops line.area.turns place e;
+  laws = record {
+    covers_more = λ area leaf v w h k. λ x p. ≤ℚ_trans (whole x) v w (h x p) k;
+    not_refuted = λ line leaf met o i none. some_number cap line.area.loops o none;
+    inside = λ line place met e. inside_of cap line.area.loops line.area.turns place e;
+    has_numbers = λ line place met e. has_numbers_of cap line.area.loops line.area.turns place e;
+    low_falls = λ line place met e o. low_falls_of cap line.area.loops line.area.turns place e;
+    high_falls = λ line place met e o. high_falls_of cap line.area.loops line.area.turns place e;
+  };
 }
 
 -- what the end of a box answers

@@ -16,13 +16,14 @@ use Rattle.loop_rows.proofs.LeafSums.{total_width_by}
 use Rattle.certificate_model.specs.declared.certificate.Claim.{Claim}
 use Rattle.certificate_model.specs.declared.certificate.Claim.TheVariants.{Best, NoTiming, Stopped}
 use Rattle.certificate_model.specs.Warrants.{Node}
-use Rattle.certificate_checker.specs.Accepted.{value_of, limit_of}
+use Rattle.certificate_checker.specs.Accepted.{value_of, limit_of, IsTimedBy}
+use Rattle.certificate_checker.specs.Claims.{IsBestBy}
 use Rattle.certificate_checker.specs.TreeProofs.{IsLeafProof, IsTreeProof}
 use Rattle.certificate_checker.proofs.LeafMeaning.{IsWithin, leaf_says}
 use Rattle.certificate_checker.proofs.Meaning.{HoldsTiming, trees_say}
 use Rattle.link_theory.specs.LinkRecord.{LinkRecord, lines}
 use Rattle.link_theory.specs.GoodLinks.{GoodLinks}
-use Rattle.link_theory.specs.BestLinks.{link_value, BoundedLinks}
+use Rattle.link_theory.specs.BestLinks.{link_value, links_of, BoundedLinks}
 use Rattle.link_theory.specs.LinkCounts.{LinkCounts, IsGoodLinkPoint}
 use Rattle.link_theory.specs.LinkColumns.{link_width, link_point}
 use Rattle.link_theory.specs.LinkNames.{HasLinkRow, link_row}
@@ -33,8 +34,8 @@ use Rattle.link_space.specs.LinkSheets.{link_goal_sheet}
 use Rattle.link_space.specs.laws.LinkSheets.{link_sheet_met}
 use Rattle.link_space.proofs.LinkRowTests.{link_row_decided, links_stand}
 use Rattle.link_proof.specs.LinkWarrants.{LinkWarrant}
-use Rattle.link_proof.specs.LinkAccepted.{IsLinkTimed, link_aim, IsLinkAccepted}
-use Rattle.link_proof.specs.LinkClaims.{AreBest, LinkClaimHolds}
+use Rattle.link_proof.specs.LinkAccepted.{link_aim, IsLinkAccepted}
+use Rattle.link_proof.specs.LinkClaims.{LinkClaimHolds}
 
 -- the goal is as wide as the rows
 pub link_goal_wide : (a : Street) → 2 ≤ count a → length (link_goal_sheet a).coefs ≡ link_width (count a)
@@ -67,12 +68,12 @@ module _ (a : Street) (t : LinkRecord) (h : IsStreet a) (g : GoodLinks a t) (lim
       trees_say a (lines t) (λ box ws. IsLeafProof (link_rows a box) (link_aim a limit) ws) (IsWithin limit (link_value a t)) leaf_keeps (root_box a ∷ []) ns c
       (inl (lines_root_boxed a t h g (root_box a) root, lines_in_root a t h g (root_box a) root))
 
-best_timed : (a : Street) (value : ℚ) (timing : Option LinkRecord) → BoundedLinks a value → IsLinkTimed a timing (Some value) → AreBest a timing value
+best_timed : (a : Street) (value : ℚ) (timing : Option LinkRecord) → BoundedLinks a value → IsTimedBy (GoodLinks a) (link_value a) timing (Some value) → IsBestBy (links_of a) timing value
 best_timed a value None b h = h
 best_timed a value (Some t) b h = (record { good = h.0; greatest = subst (BoundedLinks a) (sym h.1) b }, h.1)
 
 -- what an accepted link certificate claims holds
-claim_holds : (a : Street) (claim : Claim) (timing : Option LinkRecord) (ns : List Node) → IsStreet a → IsLinkTimed a timing (value_of claim)
+claim_holds : (a : Street) (claim : Claim) (timing : Option LinkRecord) (ns : List Node) → IsStreet a → IsTimedBy (GoodLinks a) (link_value a) timing (value_of claim)
     → IsTreeProof (link_rows a) (link_aim a (limit_of claim)) (root_box a ∷ []) ns → LinkClaimHolds a claim timing
 claim_holds a (Best value) timing ns h i c = best_timed a value timing (λ t g. root_keeps a t h g (Some value) ns c) i
 claim_holds a NoTiming timing ns h i c = λ t g. root_keeps a t h g None ns c

@@ -3,12 +3,10 @@ use Rattle.std.specs.Prelude.{Option}
 use Rattle.rational_theory.specs.Rational.{ℚ}
 use Rattle.progression.specs.Street.{Street}
 use Rattle.linear_theory.specs.Boxes.{root_box}
-use Rattle.certificate_checker.specs.Accepted.{IsTimedBy}
 use Rattle.certificate_checker.specs.Checked.{Checked, aim_at, IsAcceptedOf}
 use Rattle.certificate_checker.specs.declared.leaves.Aim.{Aim}
 use Rattle.link_theory.specs.LinkRecord.{LinkRecord}
-use Rattle.link_theory.specs.GoodLinks.{GoodLinks}
-use Rattle.link_theory.specs.BestLinks.{link_value}
+use Rattle.link_theory.specs.BestLinks.{links_of}
 use Rattle.link_space.specs.FirstLinkFailing.{IsFirstLinkFailing}
 use Rattle.link_space.specs.LinkSheets.{link_goal_sheet}
 use Rattle.link_space.specs.LinkWeights.{link_rows}
@@ -17,11 +15,7 @@ use Rattle.link_proof.specs.LinkWarrants.{LinkWarrant}
 
 -- the timings with a band for each link
 abbrev pub of_links : Street → Checked LinkRecord LinkFailing
-of_links a = record { IsGood = GoodLinks a; worth = link_value a; FailsFirst = IsFirstLinkFailing a; root = root_box a; rows = link_rows a; goal = link_goal_sheet a }
-
--- a link timing stands exactly where a value does, is good, and has the value
-abbrev pub IsLinkTimed : Street → Option LinkRecord → Option ℚ → Type 0
-IsLinkTimed a = IsTimedBy (GoodLinks a) (link_value a)
+of_links a = record { objective = links_of a; FailsFirst = IsFirstLinkFailing a; root = root_box a; rows = link_rows a; goal = link_goal_sheet a }
 
 -- what each leaf is to show: that its box has no link timing, or that no value is above the limit
 abbrev pub link_aim : Street → Option ℚ → Aim

@@ -27,5 +27,4 @@ pub use checking::{LinkReject, law_link_accepted_or_refused, link_check};
 pub use families::{LINK_FAMILIES, link_families};
 pub use laws::law_links_text;
 pub use reading::read_links;
-pub use timing_text::LinkBands;
 pub use writing::write_links;

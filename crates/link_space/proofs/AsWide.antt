@@ -1,7 +1,7 @@
 -- The bands of a good timing, each about its middle on a grid twice as fine, are bands of all links; and the two bands of a link timing of two signals are those of a
 -- timing.
 use Rattle.std.proofs.Common.{◌≡◌, ℕ, zero, suc, ◌+◌, ◌-◌, ◌*◌, ◌<◌, ◌≤◌, List, [], ◌∷◌, length, get_or, map, refl, ap, ap₂, sym, ◌∙◌, subst, arith, Bool, IsTrue, false}
-use Rattle.std.specs.Prelude.{ℤ, pos, neg_ℤ, ◌+ℤ◌, ◌-ℤ◌, ◌*ℤ◌, IfSome}
+use Rattle.std.specs.Prelude.{ℤ, pos, neg_ℤ, ◌+ℤ◌, ◌-ℤ◌, ◌*ℤ◌}
 use Rattle.std.specs.List.{sum}
 use Rattle.std.proofs.lemmas.Int.{ints}
 use Rattle.std.proofs.lemmas.List.{length-map}
@@ -11,20 +11,20 @@ use Rattle.rational_theory.proofs.Arithmetic.{*ℚ-one}
 use Rattle.rational_theory.proofs.Order.{whole-*ℤ, *ℚ-inverse, *ℚ_cancel, whole_not_zero, whole-≤ℤ, ≤ℚ_antisymm}
 use Rattle.rational_theory.proofs.Ring.{ring, at, ◌⊕◌, ◌⊗◌, one-*ℚ, zero-*ℚ}
 use Rattle.progression.specs.Street.{Street, count, HasSignal, HasLink, least_band}
-use Rattle.progression.specs.Speeds.{number, run_low, run_high, change}
-use Rattle.progression.specs.TimingRecord.{TimingRecord, IsTimingRecord, cycle, run, band}
+use Rattle.progression.specs.Speeds.{number}
+use Rattle.progression.specs.TimingRecord.{TimingRecord, base, banded, band}
+use Rattle.progression.specs.BaseRecord.{BaseRecord, IsBaseRecord, cycle}
 use Rattle.progression.specs.Green.{BandIsGreen, red_start, red_ticks}
 use Rattle.progression.specs.Lines.{advance, crossing, line_at, IsGreenAt}
-use Rattle.progression.specs.Good.{IsBase, RatioHolds, HasLeastBand, Good, pace_change}
+use Rattle.progression.specs.Good.{IsBase, RatioHolds, HasLeastBand, Good}
 use Rattle.progression.specs.Best.{weighted_band, Best}
-use Rattle.progression.specs.declared.parts.Pair.{Pair}
 use Rattle.progression.specs.declared.parts.Dir.{Dir}
 use Rattle.progression.specs.declared.parts.Dir.TheVariants.{Outbound, Inbound}
 use Rattle.artery_model.specs.Valid.{IsValid}
-use Rattle.time_space.specs.Finer.{finer}
+use Rattle.time_space.specs.Finer.{finer_base, finer}
 use Rattle.time_space.proofs.FinerGrids.{finer_law, mul-le}
 use Rattle.time_space.proofs.Multiples.{ratio_finer}
-use Rattle.link_theory.specs.LinkRecord.{LinkRecord, lines, half}
+use Rattle.link_theory.specs.LinkRecord.{LinkRecord, link_base, link_banded, lines, half}
 use Rattle.link_theory.specs.GoodLinks.{GoodLinks, IsGreenAround}
 use Rattle.link_theory.specs.BestLinks.{link_value, BestLinks}
 use Rattle.link_theory.specs.Plain.{plain}
@@ -36,7 +36,7 @@ later u v w x e = omega (arith, ints, e)
 -- ---- another line and another band on the same offsets
 -- the first lines so much later, with bands of these widths
 abbrev moved : TimingRecord → ℤ → ℤ → ℕ → ℕ → TimingRecord
-moved t x y b c = record t { first_out = t.first_out +ℤ x; first_in = t.first_in +ℤ y; band_out = b; band_in = c }
+moved t x y b c = banded (t.first_out +ℤ x) b (t.first_in +ℤ y) c (base t)
 
 module _ (a : Street) (t : TimingRecord) (x y : ℤ) (b c : ℕ) where
   abbrev there : TimingRecord
@@ -46,44 +46,13 @@ module _ (a : Street) (t : TimingRecord) (x y : ℤ) (b c : ℕ) where
   crossing_out zero = refl
   crossing_out (suc j) =
       let e = crossing_out j in
-      later (crossing a there Outbound j) (crossing a t Outbound j) (advance a t Outbound j) x e
+      later (crossing a there Outbound j) (crossing a t Outbound j) (advance a (base t) Outbound j) x e
 
   crossing_in : (j : ℕ) → crossing a there Inbound j ≡ crossing a t Inbound j +ℤ y
   crossing_in zero = refl
   crossing_in (suc j) =
       let e = crossing_in j in
-      later (crossing a there Inbound j) (crossing a t Inbound j) (advance a t Inbound j) y e
-
-  -- the rules that speak of no band are the same
-  module _ (g : IsBase a t) where
-    fast_moved : (d : Dir) (i : ℕ) → HasLink a i → (run_low a d i *ℚ number t.grid) ≤ℚ number (run there d i)
-    fast_moved Outbound i k = g.fast Outbound i k
-    fast_moved Inbound i k = g.fast Inbound i k
-
-    slow_moved : (d : Dir) (i : ℕ) → HasLink a i → number (run there d i) ≤ℚ (run_high a d i *ℚ number t.grid)
-    slow_moved Outbound i k = g.slow Outbound i k
-    slow_moved Inbound i k = g.slow Inbound i k
-
-    rise_moved : (d : Dir) (i : ℕ) → HasLink a i → HasLink a (i + 1) → IfSome (change a d i) (λ (p : Pair). pace_change a there d i ≤ℚ (p.most *ℚ number t.grid))
-    rise_moved Outbound i k l = g.rise Outbound i k l
-    rise_moved Inbound i k l = g.rise Inbound i k l
-
-    drop_moved : (d : Dir) (i : ℕ) → HasLink a i → HasLink a (i + 1) → IfSome (change a d i) (λ (p : Pair). (p.least *ℚ number t.grid) ≤ℚ pace_change a there d i)
-    drop_moved Outbound i k l = g.drop Outbound i k l
-    drop_moved Inbound i k l = g.drop Inbound i k l
-
-    base_moved : IsBase a there
-    base_moved = record {
-      plan = record { grid = g.plan.grid; unit = g.plan.unit; reds = g.plan.reds; run_out = g.plan.run_out; run_in = g.plan.run_in };
-      shape = g.shape;
-      patterns = g.patterns;
-      cycle_least = g.cycle_least;
-      cycle_most = g.cycle_most;
-      fast = fast_moved;
-      slow = slow_moved;
-      rise = rise_moved;
-      drop = drop_moved;
-    }
+      later (crossing a there Inbound j) (crossing a t Inbound j) (advance a (base t) Inbound j) y e
 
 -- ---- the same half for each link
 const_at : (xs : List ℕ) (b k : ℕ) → k < length xs → get_or (map (λ n. b) xs) k 0 ≡ b
@@ -150,23 +119,14 @@ module _ (k : ℚ) (m o i c : ℕ) (l : 0 < c) where
 -- ---- from a timing to a link timing
 -- its bands about their middles, on a grid twice as fine
 abbrev pub spread : TimingRecord → LinkRecord
-spread s = record {
-  grid = s.grid * 2;
-  unit = s.unit * 2;
-  patterns = s.patterns;
-  reds = map (λ z. z *ℤ pos 2) s.reds;
-  run_out = map (λ n. n * 2) s.run_out;
-  run_in = map (λ n. n * 2) s.run_in;
-  first_out = s.first_out *ℤ pos 2 +ℤ pos s.band_out;
-  first_in = s.first_in *ℤ pos 2 +ℤ pos s.band_in;
-  half_out = map (λ n. s.band_out) s.run_out;
-  half_in = map (λ n. s.band_in) s.run_in;
-}
+spread s =
+    link_banded (s.first_out *ℤ pos 2 +ℤ pos s.band_out) (map (λ n. s.band_out) s.run_out) (s.first_in *ℤ pos 2 +ℤ pos s.band_in) (map (λ n. s.band_in) s.run_in)
+    (finer_base 2 (base s))
 
 less_one : (m n : ℕ) → m + 1 ≡ n → m ≡ n - 1
 less_one m n e = omega (arith, e)
 
-ticks_above : (a : Street) (s : TimingRecord) → IsValid a → IsTimingRecord s → 0 < cycle a s
+ticks_above : (a : Street) (s : BaseRecord) → IsValid a → IsBaseRecord s → 0 < cycle a s
 ticks_above a s valid p =
     let parts : 1 ≤ a.head.parts = let p = valid.least_parts in omega (arith, p) in
     let u : 1 ≤ s.unit = let w = p.unit in omega (arith, w) in
@@ -184,16 +144,16 @@ module _ (a : Street) (s : TimingRecord) (valid : IsValid a) (good : Good a s) w
   around = spread s
 
   fine_good : Good a fine
-  fine_good = (finer_law a s 2 valid good.base.plan.unit (omega arith)).0 good
+  fine_good = (finer_law a s 2 valid good.base.formed.unit (omega arith)).0 good
 
-  around_base : IsBase a (lines around)
-  around_base = base_moved a fine (pos s.band_out) (pos s.band_in) 0 0 fine_good.base
+  around_base : IsBase a (link_base around)
+  around_base = fine_good.base
 
   links_out : length s.run_out + 1 ≡ count a
-  links_out = good.base.plan.run_out ∙ good.base.shape
+  links_out = good.base.formed.run_out ∙ good.base.shape
 
   links_in : length s.run_in + 1 ≡ count a
-  links_in = good.base.plan.run_in ∙ good.base.shape
+  links_in = good.base.formed.run_in ∙ good.base.shape
 
   half_is : (d : Dir) (i : ℕ) → HasLink a i → half around d i ≡ band s d
   half_is Outbound i l = let e = links_out in const_at s.run_out s.band_out (i - 1) (omega (arith, l.0, l.1, e))
@@ -210,18 +170,18 @@ module _ (a : Street) (s : TimingRecord) (valid : IsValid a) (good : Good a s) w
       let at : i - 1 + 1 ≡ i = omega (arith, h.0) in
       let wide : s.band_out * 2 ≡ 2 * s.band_out = omega arith in
       let g = fine_good.outbound (i - 1) (omega (arith, h.0, h.1)) in
-      subst (λ b. BandIsGreen (cycle a fine) (red_start a fine Outbound i) (red_ticks a fine Outbound i) (line_at a (lines around) Outbound i -ℤ pos s.band_out) b) wide
-      (subst (λ x. BandIsGreen (cycle a fine) (red_start a fine Outbound i) (red_ticks a fine Outbound i) x (s.band_out * 2)) (sym (edge_out i))
-      (subst (λ k. BandIsGreen (cycle a fine) (red_start a fine Outbound k) (red_ticks a fine Outbound k) (crossing a fine Outbound (i - 1)) (s.band_out * 2)) at g))
+      subst (λ b. BandIsGreen (cycle a (base fine)) (red_start a (base fine) Outbound i) (red_ticks a (base fine) Outbound i) (line_at a (lines around) Outbound i -ℤ pos s.band_out) b) wide
+      (subst (λ x. BandIsGreen (cycle a (base fine)) (red_start a (base fine) Outbound i) (red_ticks a (base fine) Outbound i) x (s.band_out * 2)) (sym (edge_out i))
+      (subst (λ k. BandIsGreen (cycle a (base fine)) (red_start a (base fine) Outbound k) (red_ticks a (base fine) Outbound k) (crossing a fine Outbound (i - 1)) (s.band_out * 2)) at g))
 
   green_in : (i : ℕ) → HasSignal a i → IsGreenAround a around Inbound i s.band_in
   green_in i h =
       let at : count a - (count a - i) ≡ i = omega (arith, h.0, h.1) in
       let wide : s.band_in * 2 ≡ 2 * s.band_in = omega arith in
       let g = fine_good.inbound (count a - i) (omega (arith, h.0, h.1)) in
-      subst (λ b. BandIsGreen (cycle a fine) (red_start a fine Inbound i) (red_ticks a fine Inbound i) (line_at a (lines around) Inbound i -ℤ pos s.band_in) b) wide
-      (subst (λ x. BandIsGreen (cycle a fine) (red_start a fine Inbound i) (red_ticks a fine Inbound i) x (s.band_in * 2)) (sym (edge_in i))
-      (subst (λ k. BandIsGreen (cycle a fine) (red_start a fine Inbound k) (red_ticks a fine Inbound k) (crossing a fine Inbound (count a - i)) (s.band_in * 2)) at g))
+      subst (λ b. BandIsGreen (cycle a (base fine)) (red_start a (base fine) Inbound i) (red_ticks a (base fine) Inbound i) (line_at a (lines around) Inbound i -ℤ pos s.band_in) b) wide
+      (subst (λ x. BandIsGreen (cycle a (base fine)) (red_start a (base fine) Inbound i) (red_ticks a (base fine) Inbound i) x (s.band_in * 2)) (sym (edge_in i))
+      (subst (λ k. BandIsGreen (cycle a (base fine)) (red_start a (base fine) Inbound k) (red_ticks a (base fine) Inbound k) (crossing a fine Inbound (count a - i)) (s.band_in * 2)) at g))
 
   green_at : (d : Dir) (i k : ℕ) → HasSignal a k → HasLink a i → IsGreenAround a around d k (half around d i)
   green_at Outbound i k h l = subst (λ b. IsGreenAround a around Outbound k b) (sym (half_is Outbound i l)) (green_out k h)
@@ -232,10 +192,10 @@ module _ (a : Street) (s : TimingRecord) (valid : IsValid a) (good : Good a s) w
 
   pub spread_good : GoodLinks a around
   spread_good = record {
-    plan = record {
-      lines = around_base.plan;
-      half_out = ap (λ n. n + 1) (length-map s.run_out (λ n. s.band_out)) ∙ good.base.plan.run_out;
-      half_in = ap (λ n. n + 1) (length-map s.run_in (λ n. s.band_in)) ∙ good.base.plan.run_in;
+    formed = record {
+      base = around_base.formed;
+      half_out = ap (λ n. n + 1) (length-map s.run_out (λ n. s.band_out)) ∙ good.base.formed.run_out;
+      half_in = ap (λ n. n + 1) (length-map s.run_in (λ n. s.band_in)) ∙ good.base.formed.run_in;
     };
     base = around_base;
     ratio = ratio_at;
@@ -243,16 +203,16 @@ module _ (a : Street) (s : TimingRecord) (valid : IsValid a) (good : Good a s) w
     there = λ d i l. green_at d i (i + 1) (omega (arith, l.0, l.1), omega (arith, l.0, l.1)) l;
   }
 
-  parts_above : 0 < cycle a s
-  parts_above = ticks_above a s valid good.base.plan
+  parts_above : 0 < cycle a (base s)
+  parts_above = ticks_above a (base s) valid good.base.formed
 
   pub spread_value : number (count a - 1) *ℚ weighted_band a s ≡ link_value a around
   spread_value =
       let out : sum around.half_out ≡ (count a - 1) * s.band_out = const_sum s.run_out s.band_out ∙ ap (λ n. n * s.band_out) (less_one (length s.run_out) (count a) links_out) in
       let in_ : sum around.half_in ≡ (count a - 1) * s.band_in = const_sum s.run_in s.band_in ∙ ap (λ n. n * s.band_in) (less_one (length s.run_in) (count a) links_in) in
-      let ticks : cycle a s * 2 ≡ cycle a (lines around) = omega arith in
-      same_value a.head.ratio (count a - 1) s.band_out s.band_in (cycle a s) parts_above
-      ∙ ap₂ (λ x y. (number 2 *ℚ (number x +ℚ a.head.ratio *ℚ number y)) /ℚ number (cycle a s * 2)) (sym out) (sym in_)
+      let ticks : cycle a (base s) * 2 ≡ cycle a (link_base around) = omega arith in
+      same_value a.head.ratio (count a - 1) s.band_out s.band_in (cycle a (base s)) parts_above
+      ∙ ap₂ (λ x y. (number 2 *ℚ (number x +ℚ a.head.ratio *ℚ number y)) /ℚ number (cycle a (base s) * 2)) (sym out) (sym in_)
       ∙ ap (λ c. (number 2 *ℚ (number (sum around.half_out) +ℚ a.head.ratio *ℚ number (sum around.half_in))) /ℚ number c) ticks
 
 as_wide : (a : Street) (t : LinkRecord) (s : TimingRecord) → IsValid a → BestLinks a t → Good a s → (number (count a - 1) *ℚ weighted_band a s) ≤ℚ link_value a t
@@ -295,11 +255,11 @@ module _ (a : Street) (t : LinkRecord) (valid : IsValid a) (bare : plain a ≡ a
   equal_false = ap (λ (b : Street). b.head.equal) bare
 
   green_from : (d : Dir) (i : ℕ) (x : ℤ) → line_at a (lines t) d i -ℤ pos (half t d 1) ≡ x → IsGreenAround a t d i (half t d 1)
-      → BandIsGreen (cycle a (lines t)) (red_start a (lines t) d i) (red_ticks a (lines t) d i) x (half t d 1 * 2)
+      → BandIsGreen (cycle a (link_base t)) (red_start a (link_base t) d i) (red_ticks a (link_base t) d i) x (half t d 1 * 2)
   green_from d i x e g =
       let wide : 2 * half t d 1 ≡ half t d 1 * 2 = omega arith in
-      subst (λ b. BandIsGreen (cycle a (lines t)) (red_start a (lines t) d i) (red_ticks a (lines t) d i) x b) wide
-      (subst (λ y. BandIsGreen (cycle a (lines t)) (red_start a (lines t) d i) (red_ticks a (lines t) d i) y (2 * half t d 1)) e g)
+      subst (λ b. BandIsGreen (cycle a (link_base t)) (red_start a (link_base t) d i) (red_ticks a (link_base t) d i) x b) wide
+      (subst (λ y. BandIsGreen (cycle a (link_base t)) (red_start a (link_base t) d i) (red_ticks a (link_base t) d i) y (2 * half t d 1)) e g)
 
   edge_there : (j : ℕ) → crossing a (lines t) Outbound j -ℤ pos out ≡ crossing a timing Outbound j
   edge_there j = sym (crossing_out a (lines t) (neg_ℤ (pos out)) (neg_ℤ (pos back_in)) (out * 2) (back_in * 2) j)
@@ -313,9 +273,9 @@ module _ (a : Street) (t : LinkRecord) (valid : IsValid a) (bare : plain a ≡ a
   way_there (suc (suc j)) l = absurd (omega (arith, l, two))
 
   -- the far signal comes first on the way back
-  stop_back : (j i : ℕ) → count a - j ≡ i → BandIsGreen (cycle a timing) (red_start a timing Inbound i) (red_ticks a timing Inbound i) (crossing a timing Inbound j) (back_in * 2)
+  stop_back : (j i : ℕ) → count a - j ≡ i → BandIsGreen (cycle a (base timing)) (red_start a (base timing) Inbound i) (red_ticks a (base timing) Inbound i) (crossing a timing Inbound j) (back_in * 2)
       → IsGreenAt a timing Inbound j
-  stop_back j i e g = subst (λ k. BandIsGreen (cycle a timing) (red_start a timing Inbound k) (red_ticks a timing Inbound k) (crossing a timing Inbound j) (back_in * 2)) (sym e) g
+  stop_back j i e g = subst (λ k. BandIsGreen (cycle a (base timing)) (red_start a (base timing) Inbound k) (red_ticks a (base timing) Inbound k) (crossing a timing Inbound j) (back_in * 2)) (sym e) g
 
   line_back : (i j : ℕ) → count a - i ≡ j → line_at a (lines t) Inbound i -ℤ pos back_in ≡ crossing a timing Inbound j
   line_back i j e = ap (λ k. crossing a (lines t) Inbound k -ℤ pos back_in) e ∙ edge_back j
@@ -326,12 +286,12 @@ module _ (a : Street) (t : LinkRecord) (valid : IsValid a) (bare : plain a ≡ a
   way_back (suc (suc j)) l = absurd (omega (arith, l, two))
 
   least_kept : (d : Dir) → HasLeastBand a timing d
-  least_kept Outbound = subst (λ x. (x *ℚ number (cycle a timing)) ≤ℚ number (out * 2)) (least_zero Outbound) (no_least (cycle a timing) (out * 2))
-  least_kept Inbound = subst (λ x. (x *ℚ number (cycle a timing)) ≤ℚ number (back_in * 2)) (least_zero Inbound) (no_least (cycle a timing) (back_in * 2))
+  least_kept Outbound = subst (λ x. (x *ℚ number (cycle a (base timing))) ≤ℚ number (out * 2)) (least_zero Outbound) (no_least (cycle a (base timing)) (out * 2))
+  least_kept Inbound = subst (λ x. (x *ℚ number (cycle a (base timing))) ≤ℚ number (back_in * 2)) (least_zero Inbound) (no_least (cycle a (base timing)) (back_in * 2))
 
   pub only_good : Good a timing
   only_good = record {
-    base = base_moved a (lines t) (neg_ℤ (pos out)) (neg_ℤ (pos back_in)) (out * 2) (back_in * 2) good.base;
+    base = good.base;
     ratio = (ratio_finer a.head.ratio out back_in 2 (omega arith)).0 (good.ratio 1 only_link);
     least = least_kept;
     equal = λ e. absurd (not_asked a.head.equal equal_false e);
@@ -344,8 +304,8 @@ module _ (a : Street) (t : LinkRecord) (valid : IsValid a) (bare : plain a ≡ a
 
   pub only_value : link_value a t ≡ weighted_band a timing
   only_value =
-      ap₂ (λ x y. (number 2 *ℚ (number x +ℚ a.head.ratio *ℚ number y)) /ℚ number (cycle a timing)) (one_half t.half_out good.plan.half_out) (one_half t.half_in good.plan.half_in)
-      ∙ ap (λ x. x /ℚ number (cycle a timing)) (sym (twice_out a.head.ratio out back_in))
+      ap₂ (λ x y. (number 2 *ℚ (number x +ℚ a.head.ratio *ℚ number y)) /ℚ number (cycle a (base timing))) (one_half t.half_out good.formed.half_out) (one_half t.half_in good.formed.half_in)
+      ∙ ap (λ x. x /ℚ number (cycle a (base timing))) (sym (twice_out a.head.ratio out back_in))
 
 two_signals : (a : Street) (t : LinkRecord) (s : TimingRecord) → IsValid a → plain a ≡ a → count a ≡ 2 → BestLinks a t → Best a s → link_value a t ≡ weighted_band a s
 two_signals a t s valid bare two best whole =

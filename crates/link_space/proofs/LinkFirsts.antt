@@ -3,12 +3,13 @@ use Rattle.std.proofs.Common.{◌≡◌, ℕ, ◌+◌, ◌<◌, ◌≤◌, arith
 use Rattle.std.specs.Prelude.{ℤ}
 use Rattle.std.proofs.lemmas.Bool.{cases_lt}
 use Rattle.progression.specs.Street.{Street, HasLink}
-use Rattle.progression.specs.Good.{RatioHolds}
+use Rattle.progression.specs.Good.{IsBase, RatioHolds}
 use Rattle.progression.specs.declared.parts.Dir.{Dir}
 use Rattle.progression.specs.declared.parts.Dir.TheVariants.{Outbound, Inbound}
-use Rattle.time_space.specs.FirstFailing.{rule_order, last_base_rule, IsFirstFailing, NoneBefore}
+use Rattle.time_space.specs.FirstFailing.{IsFirstBaseFailing}
 use Rattle.time_space.specs.declared.failing.Failing.{Failing}
-use Rattle.link_theory.specs.LinkRecord.{LinkRecord, lines, half}
+use Rattle.time_space.proofs.Firsts.{rules_out_base}
+use Rattle.link_theory.specs.LinkRecord.{LinkRecord, link_base, half}
 use Rattle.link_theory.specs.GoodLinks.{IsGreenAround}
 use Rattle.link_space.specs.LinkGreens.{travel_order, IsBlockedEnd, IsGreenLink, IsFirstBlockedLink}
 use Rattle.link_space.specs.LinkFailing.{LinkFails}
@@ -18,19 +19,19 @@ use Rattle.link_space.specs.declared.failing.LinkFailing.TheVariants as failing
 use Rattle.link_space.proofs.Ends.{here_end, there_end, not_both_there}
 
 module _ (a : Street) (t : LinkRecord) where
-  -- ---- the rules that speak of no band
-  pub after_base : NoneBefore a (lines t) (last_base_rule + 1) → NoLinkBefore a t 1
-  after_base b (failing.Base f) w = absurd (omega (arith, b f w.0, w.1))
+  -- ---- the rules of its base
+  pub after_base : IsBase a (link_base t) → NoLinkBefore a t 1
+  after_base b (failing.Base f) w = absurd (rules_out_base a (link_base t) f w b)
   after_base b g w = omega arith
 
-  no_later_base : (f : Failing) → IsFirstFailing a (lines t) f → (g : LinkFailing) → LinkFails a t g → IsNoLaterLink a (failing.Base f) g
-  no_later_base f p (failing.Base g) w = record { variant = omega arith; base = p.first g w.0; link = λ e. omega arith; signal = λ e q. omega arith }
+  no_later_base : (f : Failing) → IsFirstBaseFailing a (link_base t) f → (g : LinkFailing) → LinkFails a t g → IsNoLaterLink a (failing.Base f) g
+  no_later_base f p (failing.Base g) w = record { variant = omega arith; base = p.first g w; link = λ e. omega arith; signal = λ e q. omega arith }
   no_later_base f p (failing.Ratio k) w = record { variant = omega arith; base = tt; link = λ e. omega arith; signal = λ e q. omega arith }
   no_later_base f p (failing.Outbound k s z) w = record { variant = omega arith; base = tt; link = λ e. omega arith; signal = λ e q. omega arith }
   no_later_base f p (failing.Inbound k s z) w = record { variant = omega arith; base = tt; link = λ e. omega arith; signal = λ e q. omega arith }
 
-  pub first_base : (f : Failing) → IsFirstFailing a (lines t) f → rule_order f ≤ last_base_rule → IsFirstLinkFailing a t (failing.Base f)
-  first_base f p o = record { fails = (p.fails, o); first = no_later_base f p }
+  pub first_base : (f : Failing) → IsFirstBaseFailing a (link_base t) f → IsFirstLinkFailing a t (failing.Base f)
+  first_base f p = record { fails = p.fails; first = no_later_base f p }
 
   -- ---- the ratio
   abbrev pub Kept : ℕ → Type 0

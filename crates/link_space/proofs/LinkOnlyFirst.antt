@@ -4,6 +4,7 @@ use Rattle.std.specs.Prelude.{ℤ, pos, ◌+ℤ◌}
 use Rattle.progression.specs.Street.{Street}
 use Rattle.progression.specs.declared.parts.Dir.{Dir}
 use Rattle.progression.specs.declared.parts.Dir.TheVariants.{Outbound, Inbound}
+use Rattle.time_space.proofs.Firsts.{fails_of_base}
 use Rattle.time_space.proofs.OnlyFirst.{one_tick, neither_later}
 use Rattle.link_theory.specs.LinkRecord.{LinkRecord, lines}
 use Rattle.link_space.specs.LinkGreens.{edge, travel_order, IsBlockedEnd}
@@ -39,7 +40,7 @@ blocked_in i k s r x y e h = λ m. failing.Inbound (e m) (h.0 m) (h.1 m)
 -- failings neither of which comes after the other are the same
 same_failing : (a : Street) (t : LinkRecord) (f g : LinkFailing) → LinkFails a t f → LinkFails a t g → IsNoLaterLink a f g → IsNoLaterLink a g f
     → variant_order f ≡ variant_order g → link_order f ≡ link_order g → signal_order a f ≡ signal_order a g → f ≡ g
-same_failing a t (failing.Base f) (failing.Base g) p q h k v l s = ap failing.Base (neither_later a (lines t) f g p.0 q.0 h.base k.base)
+same_failing a t (failing.Base f) (failing.Base g) p q h k v l s = ap failing.Base (neither_later a (lines t) f g (fails_of_base a (lines t) f p) (fails_of_base a (lines t) g q) h.base k.base)
 same_failing a t (failing.Ratio i) (failing.Ratio j) p q h k v l s = ap failing.Ratio l
 same_failing a t (failing.Outbound i n x) (failing.Outbound j m y) p q h k v l s = blocked_out i j n m x y l (same_place a t Outbound i j n m x y p q l s)
 same_failing a t (failing.Inbound i n x) (failing.Inbound j m y) p q h k v l s = blocked_in i j n m x y l (same_place a t Inbound i j n m x y p q l s)

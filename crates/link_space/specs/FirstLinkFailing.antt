@@ -1,4 +1,4 @@
--- The order of the link failings: the rules that speak of no band, as for any timing; then the ratio, the outbound and the inbound bands, each by link; at one
+-- The order of the link failings: the rules of its base, as for any timing; then the ratio, the outbound and the inbound bands, each by link; at one
 -- link by signal in travel order.
 use Rattle.std.specs.Prelude.{◌≡◌, ℕ, ◌≤◌, ℤ}
 use Rattle.progression.specs.Street.{Street}
@@ -36,7 +36,7 @@ signal_order a (failing.Outbound i signal tick) = travel_order a Outbound signal
 signal_order a (failing.Inbound i signal tick) = travel_order a Inbound signal
 signal_order a f = 0
 
--- of two rules that speak of no band the first doesn't come after the second
+-- of two rules of a base the first doesn't come after the second
 abbrev pub IsBaseNoLater : Street → LinkFailing → LinkFailing → Type 0
 IsBaseNoLater a (failing.Base f) (failing.Base g) = IsNoLater a f g
 IsBaseNoLater a f g = Unit {0}

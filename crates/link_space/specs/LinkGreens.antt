@@ -1,13 +1,13 @@
 -- Where a link's band isn't green: at one of the link's signals, and there first at a tick.
 use Rattle.std.specs.Prelude.{◌≡◌, ℕ, ◌+◌, ◌-◌, ◌*◌, ◌<◌, ◌≤◌, ℤ, pos, ◌+ℤ◌, ◌-ℤ◌}
 use Rattle.progression.specs.Street.{Street, count, HasLink}
-use Rattle.progression.specs.TimingRecord.{cycle}
+use Rattle.progression.specs.BaseRecord.{cycle}
 use Rattle.progression.specs.Green.{red_start, red_ticks}
 use Rattle.progression.specs.Lines.{line_at}
 use Rattle.progression.specs.declared.parts.Dir.{Dir}
 use Rattle.progression.specs.declared.parts.Dir.TheVariants.{Outbound, Inbound}
 use Rattle.time_space.specs.FirstRed.{IsFirstRed}
-use Rattle.link_theory.specs.LinkRecord.{LinkRecord, lines, half}
+use Rattle.link_theory.specs.LinkRecord.{LinkRecord, link_base, lines, half}
 use Rattle.link_theory.specs.GoodLinks.{IsGreenAround}
 
 -- one of the two signals that a link joins
@@ -21,8 +21,8 @@ edge a t d i signal = line_at a (lines t) d signal -ℤ pos (half t d i)
 
 -- at the signal the first tick of link i's band that isn't green comes so long after the band's beginning
 abbrev pub IsBlockedAfter : Street → LinkRecord → Dir → ℕ → ℕ → ℕ → Type 0
-IsBlockedAfter a t d i signal after = let p = lines t in
-    IsFirstRed (cycle a p) (red_start a p d signal) (red_ticks a p d signal) (edge a t d i signal) (2 * half t d i) after
+IsBlockedAfter a t d i signal after = let b = link_base t in
+    IsFirstRed (cycle a b) (red_start a b d signal) (red_ticks a b d signal) (edge a t d i signal) (2 * half t d i) after
 
 -- at this signal of link i the link's band isn't green, first at this tick
 pub record IsBlockedEnd (a : Street) (t : LinkRecord) (d : Dir) (i signal : ℕ) (tick : ℤ) : Type 0 where

@@ -1,7 +1,7 @@
 //! The columns of the rows of links.
 
 ghost use Rattle.std.specs.Prelude.{◌≡◌, ◌<◌, ◌≤◌};
-ghost use Rattle.progression.specs.Street.{count};
+ghost use Rattle.progression.specs.Street.{count, HasLink};
 ghost use Rattle.link_theory.specs.{LinkColumns.{link_width, half_place}, LinkRows.{signal_at}};
 
 use artery_model::{Artery, Dir};
@@ -17,8 +17,7 @@ pub fn link_column_count(artery: &Artery) -> u32
 
 /// The column of a direction's half on a link.
 pub fn half_column(artery: &Artery, dir: Dir, link: u32) -> u32
-    requires first { 1 ≤ link }
-    requires last { link < count artery.now }
+    requires link { HasLink artery.now link }
     ensures value { result ≡ half_place (count artery.now) dir link }
     ensures inside { result < link_width (count artery.now) }
 {
@@ -32,8 +31,7 @@ pub fn half_column(artery: &Artery, dir: Dir, link: u32) -> u32
 
 /// The signal at an end of a link.
 pub fn signal_at(artery: &Artery, end: End, link: u32) -> u32
-    requires first { 1 ≤ link }
-    requires last { link < count artery.now }
+    requires link { HasLink artery.now link }
     ensures value { result ≡ signal_at end link }
     ensures least { 1 ≤ result }
     ensures most { result ≤ count artery.now }

@@ -5,7 +5,7 @@ use time_space::Failing;
 /// A rule of a good link timing that a link timing breaks, and where.
 #[derive(Clone, Copy, PartialEq, Eq)]
 pub enum LinkFailing {
-    /// The timing of the lines breaks a rule that speaks of no band: of shape, patterns, cycle, runs or changes of pace.
+    /// Its base breaks a rule: of shape, patterns, cycle, runs or changes of pace.
     Base(Failing),
     /// The link's bands don't keep the ratio.
     Ratio { link: u32 },

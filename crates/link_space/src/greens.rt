@@ -1,26 +1,40 @@
 //! Where the bands of the links aren't green.
 
-ghost use Rattle.std.specs.Prelude.{◌≡◌, ◌+◌, ◌*◌, ◌<◌, ◌≤◌, ◌^◌, ℕ, length, MatchOption, IfSome, unsigned_abs};
-ghost use Rattle.progression.specs.Street.{count, HasLink};
+ghost use Rattle.std.specs.Prelude.{◌≡◌, ◌+◌, ◌*◌, ◌<◌, ◌^◌, ℕ, MatchOption, IfSome, unsigned_abs};
+ghost use Rattle.progression.specs.{Street.{count, HasLink, HasSignal}, Lines.{line_at}};
 ghost use Rattle.artery_model.specs.Bounds.{most_signals};
-ghost use Rattle.link_theory.specs.{LinkRecord.{half}, GoodLinks.{IsGreenAround}};
+ghost use Rattle.link_theory.specs.{LinkRecord.{lines, half, link_base}, GoodLinks.{IsGreenAround}};
 ghost use Rattle.link_space.specs.LinkGreens.{IsEnd, ends, edge, IsBlockedAfter, IsBlockedEnd, IsFirstBlockedEnd, IsGreenLink, IsFirstBlockedLink};
+ghost use Rattle.time_space.specs.Timing.{IsFor};
 
 use crate::timing::LinkTiming;
 use artery_model::Artery;
 use progression::Dir;
-use time_space::{cycle, first_red, line_at, red_start, red_ticks};
+use time_space::{crossing_from, first_red};
+
+/// The tick at which a direction's line crosses a signal.
+fn line_at(artery: &Artery, timing: &LinkTiming, dir: Dir, signal: u32) -> i128
+    requires signal { HasSignal artery.now signal }
+    requires shape { IsFor artery.now (link_base timing.now) }
+    ensures value { result ≡ line_at artery.now (lines timing.now) dir signal }
+    ensures near { unsigned_abs result < 2 ^ 98 }
+{
+    let place = match dir {
+        Dir::Outbound => signal - 1,
+        Dir::Inbound => artery.count() - signal,
+    };
+    crossing_from(artery, timing.base(), dir, timing.first(dir), place)
+}
 
 /// The tick at which a link's band begins at one of the link's signals.
 fn edge(artery: &Artery, timing: &LinkTiming, dir: Dir, link: u32, signal: u32) -> i128
-    requires first { 1 ≤ link }
-    requires last { link < count artery.now }
+    requires link { HasLink artery.now link }
     requires end { IsEnd link signal }
-    requires shape { length timing.now.patterns ≡ count artery.now }
+    requires shape { IsFor artery.now (link_base timing.now) }
     ensures value { result ≡ edge artery.now timing.now dir link signal }
     ensures near { unsigned_abs result < 2 ^ 99 }
 {
-    line_at(artery, timing.lines(), dir, signal) - timing.half(dir, link) as i128
+    line_at(artery, timing, dir, signal) - timing.half(dir, link) as i128
 }
 
 /// How many ticks after its beginning a link's band first meets a red at one of the link's signals.
@@ -32,21 +46,20 @@ fn blocked_after(
     signal: u32,
     from: i128,
 ) -> Option<u128>
-    requires first { 1 ≤ link }
-    requires last { link < count artery.now }
+    requires link { HasLink artery.now link }
     requires end { IsEnd link signal }
-    requires shape { length timing.now.patterns ≡ count artery.now }
+    requires shape { IsFor artery.now (link_base timing.now) }
     requires here { from ≡ edge artery.now timing.now dir link signal }
     requires near { unsigned_abs from < 2 ^ 99 }
     ensures found { MatchOption result (IsGreenAround artery.now timing.now dir signal (half timing.now dir link))
         (λ after. IsBlockedAfter artery.now timing.now dir link signal after) }
     ensures small { IfSome result (λ after. after < 2 ^ 81) }
 {
-    let lines = timing.lines();
-    let start = red_start(artery, lines, dir, signal);
-    let red = red_ticks(artery, lines, dir, signal);
+    let base = timing.base();
+    let start = base.red_start(artery, dir, signal);
+    let red = base.red_ticks(artery, dir, signal);
     first_red(
-        cycle(artery, lines),
+        base.cycle(artery),
         start,
         red,
         from,
@@ -62,10 +75,9 @@ fn blocked_at(
     link: u32,
     signal: u32,
 ) -> Option<i128>
-    requires first { 1 ≤ link }
-    requires last { link < count artery.now }
+    requires link { HasLink artery.now link }
     requires end { IsEnd link signal }
-    requires shape { length timing.now.patterns ≡ count artery.now }
+    requires shape { IsFor artery.now (link_base timing.now) }
     ensures { MatchOption result (IsGreenAround artery.now timing.now dir signal (half timing.now dir link))
         (λ tick. IsBlockedEnd artery.now timing.now dir link signal tick) }
 {
@@ -87,10 +99,9 @@ fn ends(dir: Dir, link: u32) -> (u32, u32)
 
 /// The first of a link's signals in travel order where its band isn't green, and the first tick there that isn't.
 fn blocked_on(artery: &Artery, timing: &LinkTiming, dir: Dir, link: u32) -> Option<(u32, i128)>
-    requires first { 1 ≤ link }
-    requires last { link < count artery.now }
+    requires link { HasLink artery.now link }
     requires small { link < most_signals }
-    requires shape { length timing.now.patterns ≡ count artery.now }
+    requires shape { IsFor artery.now (link_base timing.now) }
     ensures { MatchOption result (IsGreenLink artery.now timing.now dir link)
         (λ at. IsFirstBlockedEnd artery.now timing.now dir link at.0 at.1) }
 {
@@ -113,7 +124,7 @@ pub struct Blocked {
 /// The least link whose band in a direction isn't green, the first of its signals in travel order where that is so, and the first
 /// tick there.
 pub fn first_blocked(artery: &Artery, timing: &LinkTiming, dir: Dir) -> Option<Blocked>
-    requires shape { length timing.now.patterns ≡ count artery.now }
+    requires shape { IsFor artery.now (link_base timing.now) }
     ensures { MatchOption result ((i : ℕ) → HasLink artery.now i → IsGreenLink artery.now timing.now dir i)
         (λ at. IsFirstBlockedLink artery.now timing.now dir at.link at.signal at.tick) }
 {

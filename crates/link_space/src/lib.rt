@@ -33,7 +33,7 @@ pub use failing::LinkFailing;
 pub use families::LinkFamily;
 pub use goal::{fill_link_goal, twice};
 pub use problem::LinkBands;
-pub use rows::{LinkTable, fill_link_row, next_link_row};
+pub use rows::{fill_link_row, next_link_row};
 pub use rules::{
     law_finer_link_grids, law_link_fails_rules_out, law_links_as_wide, law_one_first_link,
     link_holds,

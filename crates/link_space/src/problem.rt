@@ -5,7 +5,9 @@ ghost use Rattle.link_theory.specs.{LinkColumns.{link_width}, LinkCounts.{IsGood
 
 use loop_rows::Problem;
 
-/// The problem whose points are those of good link timings with block sums and shift ranks in the box.
+/// A band for each link in each direction. As a problem, its points are those of good link timings with block sums and shift ranks in
+/// the box.
+#[derive(Drop)]
 pub struct LinkBands;
 
 impl Problem for LinkBands {

@@ -10,6 +10,7 @@ ghost use Rattle.link_space.specs.{LinkFamilies.{number_of, row_in}, LinkSheets.
 ghost use Rattle.link_space.specs.LinkWeights.{rows_of_links};
 
 use crate::families::LinkFamily;
+use crate::problem::LinkBands;
 use artery_model::{Artery, Dir};
 use link_theory::End;
 use loop_rows::{RowTable, column_count, fill_by, fill_row, has_by, has_row, next_in};
@@ -121,11 +122,7 @@ fn has_link_row(artery: &Artery, family: u8, index: u32) -> bool
     }
 }
 
-/// The rows of links of an artery.
-#[derive(Drop)]
-pub struct LinkTable;
-
-impl RowTable for LinkTable {
+impl RowTable for LinkBands {
     ghost exists = { λ table a. rows_of_links a };
 
     ghost last = { λ table. last_link_family };
@@ -148,5 +145,5 @@ impl RowTable for LinkTable {
 pub fn next_link_row(artery: &Artery, after: Option<RowId>) -> Option<RowId>
     ensures { IsNextIn (rows_of_links artery.now) after result }
 {
-    next_in(&LinkTable, artery, after)
+    next_in(&LinkBands, artery, after)
 }

@@ -1,29 +1,30 @@
 //! The test of a link timing against the rules of an artery, rule after rule.
 
-ghost use Rattle.std.specs.Prelude.{◌≡◌, ◌+◌, ℕ, length, OnOk, IfErr};
+ghost use Rattle.std.specs.Prelude.{◌≡◌, ◌+◌, ℕ, OnOk, IfErr};
 ghost use Rattle.progression.specs.{Street.{count, HasLink}, Good.{IsBase, RatioHolds}, declared.parts.Dir.{Dir}};
-ghost use Rattle.link_theory.specs.{LinkRecord.{IsLinkRecord, lines, half}, GoodLinks.{GoodLinks}};
+ghost use Rattle.link_theory.specs.{LinkRecord.{IsLinkRecord, link_base, half}, GoodLinks.{GoodLinks}};
 ghost use Rattle.link_space.specs.{LinkGreens.{IsGreenLink}, LinkFailing.{LinkFailsRulesOut}, FinerLinks.{FinerLinkGrids}};
 ghost use Rattle.link_space.specs.LinksAsWide.{LinksAsWide};
 ghost use Rattle.link_space.specs.FirstLinkFailing.{band_order, band_failing, IsFirstLinkFailing, NoLinkBefore, OneFirstLink};
+ghost use Rattle.time_space.specs.Timing.{IsFor};
 
 use crate::failing::LinkFailing;
 use crate::greens::{Blocked, first_blocked};
 use crate::timing::LinkTiming;
 use artery_model::Artery;
 use progression::Dir;
-use time_space::{base_holds, is_in_ratio};
+use time_space::is_in_ratio;
 
 #[tactic(auto, using(crate::proofs::LinkFirsts::after_base, crate::proofs::LinkFirsts::first_base))]
 fn check_base(artery: &Artery, timing: &LinkTiming) -> Result<(), LinkFailing>
-    ensures plan { IsLinkRecord timing.now }
-    ensures shape { OnOk result (length timing.now.patterns ≡ count artery.now) }
-    ensures kept { OnOk result (IsBase artery.now (lines timing.now)) }
+    ensures formed { IsLinkRecord timing.now }
+    ensures shape { OnOk result (IsFor artery.now (link_base timing.now)) }
+    ensures kept { OnOk result (IsBase artery.now (link_base timing.now)) }
     ensures next { OnOk result (NoLinkBefore artery.now timing.now 1) }
     ensures first { IfErr result (λ f. IsFirstLinkFailing artery.now timing.now f) }
 {
     let _signals = timing.count();
-    match base_holds(artery, timing.lines()) {
+    match time_space::check_base(artery, timing.base()) {
         Ok(()) => Ok(()),
         Err(failing) => Err(LinkFailing::Base(failing)),
     }
@@ -31,7 +32,7 @@ fn check_base(artery: &Artery, timing: &LinkTiming) -> Result<(), LinkFailing>
 
 #[tactic(auto, using(crate::proofs::LinkFirsts::after_ratios, crate::proofs::LinkFirsts::first_ratio))]
 fn check_ratios(artery: &Artery, timing: &LinkTiming) -> Result<(), LinkFailing>
-    requires shape { length timing.now.patterns ≡ count artery.now }
+    requires shape { IsFor artery.now (link_base timing.now) }
     requires before { NoLinkBefore artery.now timing.now 1 }
     ensures kept { OnOk result ((i : ℕ) → HasLink artery.now i → RatioHolds artery.now.head.ratio (half timing.now Dir.Outbound i) (half timing.now Dir.Inbound i)) }
     ensures next { OnOk result (NoLinkBefore artery.now timing.now 2) }
@@ -62,7 +63,7 @@ fn band_failing(dir: Dir, at: Blocked) -> LinkFailing
 
 #[tactic(auto, using(crate::proofs::LinkFirsts::after_bands, crate::proofs::LinkFirsts::first_band))]
 fn check_bands(artery: &Artery, timing: &LinkTiming, dir: Dir) -> Result<(), LinkFailing>
-    requires shape { length timing.now.patterns ≡ count artery.now }
+    requires shape { IsFor artery.now (link_base timing.now) }
     requires before { NoLinkBefore artery.now timing.now (band_order dir) }
     ensures kept { OnOk result ((i : ℕ) → HasLink artery.now i → IsGreenLink artery.now timing.now dir i) }
     ensures next { OnOk result (NoLinkBefore artery.now timing.now (band_order dir + 1)) }
@@ -76,7 +77,7 @@ fn check_bands(artery: &Artery, timing: &LinkTiming, dir: Dir) -> Result<(), Lin
 
 /// Whether the link timing is good for the artery: Ok where it is, and else the first rule that it breaks.
 ///
-/// The first is by the order in which `LinkFailing` names the rules, where those of the lines come in the order of
+/// The first is by the order in which `LinkFailing` names the rules, where those of its base come in the order of
 /// `time_space::Failing`; then the least number of a link; then the first of its signals that the band comes to.
 pub fn link_holds(artery: &Artery, timing: &LinkTiming) -> Result<(), LinkFailing>
     ensures good { OnOk result (GoodLinks artery.now timing.now) }

@@ -1,33 +1,37 @@
-//! A link timing, seen as a link plan.
+//! A link timing, seen as a link record.
 
-ghost use Rattle.std.specs.Prelude.{◌≡◌, ◌↔◌, All, IsTrue, IfNone, IfSome, ◌+◌, ◌<◌, ◌≤◌, ◌^◌, length};
-ghost use Rattle.link_theory.specs.LinkRecord.{LinkRecord, IsLinkRecord, lines, half};
-ghost use Rattle.link_space.specs.LinkTiming.{IsLinkTiming, link_plan_of};
+ghost use Rattle.std.specs.Prelude.{◌≡◌, ◌↔◌, All, IsTrue, IfNone, IfSome, ◌+◌, ◌<◌, ◌≤◌, ◌^◌, length, pos, ◌≤ℤ◌, ◌<ℤ◌};
+ghost use Rattle.progression.specs.TimingRecord.{first};
+ghost use Rattle.link_theory.specs.LinkRecord.{IsLinkRecord, link_base, link_banded, lines, half};
+ghost use Rattle.link_space.specs.LinkTiming.{AreHalves, IsLinkTiming, link_timing_of};
 ghost use Rattle.artery_model.specs.Bounds.{least_signals, most_signals};
 
 use progression::Dir;
 use std::marker::Model;
-use time_space::{Timing, are_below_limit};
+use time_space::{Base, LIMIT, are_below_limit};
 
-/// A timing of an artery's signals with a band for each link in each direction, in ticks of a grid of its own.
+/// A base with a line in each direction and a band for each link about it, in ticks.
 ///
 /// Every number is below `2^80`. There are 2 to 24 signals. A link's band reaches as far to either side of the direction's line.
 #[derive(Drop)]
 pub struct LinkTiming {
-    lines: Timing,
+    base: Base,
+    first_out: u128,
+    first_in: u128,
     half_out: Vec<u128>,
     half_in: Vec<u128>,
 }
 
 impl Model for LinkTiming {
-    ghost use Rattle.link_theory.specs.LinkRecord.{LinkRecord, with_halves};
+    ghost use Rattle.std.specs.Prelude.{pos};
+    ghost use Rattle.link_theory.specs.LinkRecord.{LinkRecord, link_banded};
     ghost use Rattle.link_space.specs.LinkTiming.{IsLinked};
 
     ghost Value = { LinkRecord };
 
-    ghost view = { λ t. with_halves t.lines t.half_out.items t.half_in.items };
+    ghost view = { λ t. link_banded (pos t.first_out) t.half_out.items (pos t.first_in) t.half_in.items t.base };
 
-    ghost invariant = { λ t. IsLinked t.lines t.half_out.items t.half_in.items };
+    ghost invariant = { λ t. IsLinked t.base.patterns t.first_out t.first_in t.half_out.items t.half_in.items };
 }
 
 /// Whether these are the halves of a direction for so many signals: one for each link, and each of them small.
@@ -59,38 +63,69 @@ impl LinkTiming {
     ) -> Option<LinkTiming>
         ensures none { IfNone result (¬ IsLinkTiming grid unit patterns.items reds.items run_out.items run_in.items first_out first_in half_out.items half_in.items) }
         ensures some { IfSome result (λ t. IsLinkTiming grid unit patterns.items reds.items run_out.items run_in.items first_out first_in half_out.items half_in.items) }
-        ensures value { IfSome result (λ t. t ≡ link_plan_of grid unit patterns.items reds.items run_out.items run_in.items first_out first_in half_out.items half_in.items) }
+        ensures value { IfSome result (λ t. t ≡ link_timing_of grid unit patterns.items reds.items run_out.items run_in.items first_out first_in half_out.items half_in.items) }
     {
-        let lines = Timing::new(
-            grid, unit, patterns, reds, run_out, run_in, first_out, first_in, 0, 0,
-        )?;
-        let count = lines.count();
+        let base = Base::new(grid, unit, patterns, reds, run_out, run_in)?;
+        let count = base.count();
+        if first_out >= LIMIT || first_in >= LIMIT {
+            return None;
+        }
         if !are_halves(half_out.as_slice(), count) || !are_halves(half_in.as_slice(), count) {
             return None;
         }
-        Some(LinkTiming {
-            lines,
-            half_out,
-            half_in,
-        })
+        Some(LinkTiming::around(base, first_out, half_out, first_in, half_in))
     }
 
-    /// Its two lines, as a timing whose bands are lines.
-    #[tactic(auto, using(link_theory::proofs::Halves::lines_of))]
-    pub fn lines(&self) -> &Timing
-        ensures { result.now ≡ lines self.now }
+    /// The link timing of a base with these first lines and the halves about them, in ticks.
+    pub fn around(
+        base: Base,
+        first_out: u128,
+        half_out: Vec<u128>,
+        first_in: u128,
+        half_in: Vec<u128>,
+    ) -> LinkTiming
+        requires first_out { first_out < 2 ^ 80 }
+        requires half_out { AreHalves base.patterns half_out.items }
+        requires first_in { first_in < 2 ^ 80 }
+        requires half_in { AreHalves base.patterns half_in.items }
+        ensures { result ≡ link_banded (pos first_out) half_out.items (pos first_in) half_in.items base }
     {
-        &self.lines
+        LinkTiming {
+            base,
+            first_out,
+            first_in,
+            half_out,
+            half_in,
+        }
+    }
+
+    /// What no line and no band is part of.
+    pub fn base(&self) -> &Base
+        ensures { result.now ≡ link_base self.now }
+    {
+        &self.base
+    }
+
+    /// The tick at which a direction's line crosses the first signal of its way.
+    pub fn first(&self, dir: Dir) -> i128
+        ensures value { result ≡ first (lines self.now) dir }
+        ensures least { pos 0 ≤ℤ result }
+        ensures most { result <ℤ pos (2 ^ 80) }
+    {
+        match dir {
+            Dir::Outbound => self.first_out as i128,
+            Dir::Inbound => self.first_in as i128,
+        }
     }
 
     /// How many signals it has, from 2 to 24.
     pub fn count(&self) -> u32
         ensures value { result ≡ length self.now.patterns }
-        ensures plan { IsLinkRecord self.now }
+        ensures formed { IsLinkRecord self.now }
         ensures few { least_signals ≤ result }
         ensures many { result ≤ most_signals }
     {
-        self.lines.count()
+        self.base.count()
     }
 
     /// How many ticks a link's band reaches to either side of its line.
@@ -113,6 +148,7 @@ impl LinkTiming {
         ensures count { length result.now + 1 ≡ length self.now.patterns }
         ensures few { length result.now < most_signals }
     {
+        let _signals = self.count();
         self.half_out.as_slice()
     }
 
@@ -123,6 +159,7 @@ impl LinkTiming {
         ensures count { length result.now + 1 ≡ length self.now.patterns }
         ensures few { length result.now < most_signals }
     {
+        let _signals = self.count();
         self.half_in.as_slice()
     }
 }

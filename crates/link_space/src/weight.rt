@@ -7,7 +7,7 @@ ghost use Rattle.link_theory.specs.BestLinks.{link_value};
 use crate::timing::LinkTiming;
 use artery_model::Artery;
 use narrow_fraction::Frac;
-use time_space::{cycle, weighted};
+use time_space::weighted;
 
 /// The widths of all bands, each twice its half.
 fn widths(halves: &[u128]) -> u128
@@ -34,6 +34,6 @@ pub fn link_value(artery: &Artery, timing: &LinkTiming) -> Frac
         artery.ratio(),
         widths(timing.half_out()),
         widths(timing.half_in()),
-        cycle(artery, timing.lines()),
+        timing.base().cycle(artery),
     )
 }

@@ -7,14 +7,15 @@ use Rattle.linear_theory.specs.Boxes.{Area, root_box}
 use Rattle.named_row.specs.declared.leaves.Leaf.{Leaf}
 use Rattle.certificate_model.specs.declared.certificate.Claim.{Claim}
 use Rattle.certificate_model.specs.declared.certificate.Claim.TheVariants.{Best, NoTiming, Stopped}
-use Rattle.certificate_checker.specs.Accepted.{value_of, limit_of, IsBoundAbove}
+use Rattle.certificate_checker.specs.Accepted.{value_of, limit_of, IsTimedBy, IsBoundAbove}
+use Rattle.link_theory.specs.GoodLinks.{GoodLinks}
+use Rattle.link_theory.specs.BestLinks.{link_value}
 use Rattle.certificate_checker.specs.TreeProofs.{ProveAll}
 use Rattle.link_theory.specs.LinkRecord.{LinkRecord}
-use Rattle.link_proof.specs.LinkAccepted.{IsLinkTimed, IsLinkAccepted}
-use Rattle.link_proof.specs.LinkClaims.{LinkClaimHolds}
+use Rattle.link_proof.specs.LinkAccepted.{IsLinkAccepted}
 use Rattle.link_proof.specs.LinkWarrants.{LinkWarrant}
 use Rattle.branch_and_bound.specs.Answer.{IsProof}
-use Rattle.branch_tree.specs.Kinds.{CanBeSought, ClaimHoldsOf}
+use Rattle.branch_tree.specs.Kinds.{CanBeSought}
 use Rattle.branch_tree.proofs.Units.{program_short}
 use Rattle.multi_band.specs.LinkKind.{link_bands}
 use Rattle.multi_band.specs.LinkProgram.{link_program}
@@ -30,7 +31,8 @@ leaf_proof a None box leaf h = h
 leaf_proof a (Some value) box leaf (inl h) = record { there = h.there; fits = h.fits; keeps = inr h.keeps }
 leaf_proof a (Some value) box leaf (inr h) = h
 
-accepted_by : (a : Street) (c : LinkWarrant) → IsLinkTimed a c.timing (value_of c.claim) → IsBoundAbove c.claim → ProveAll (IsLinkLeaf a (limit_of c.claim)) (root_box a ∷ []) c.nodes
+accepted_by : (a : Street) (c : LinkWarrant) → IsTimedBy (GoodLinks a) (link_value a) c.timing (value_of c.claim) → IsBoundAbove c.claim → ProveAll (IsLinkLeaf a (limit_of c.claim))
+    (root_box a ∷ []) c.nodes
     → IsLinkAccepted a c
 accepted_by a c timing bound tree = record { timing = timing; bound = bound; tree = tree }
 
@@ -44,9 +46,3 @@ links_can_be_sought a v = record {
   proved = leaf_proof a;
   accepted = accepted_by a;
 }
-
--- what a claim of its link certificates says
-pub link_claim_holds : (a : Street) (claim : Claim) (timing : Option LinkRecord) → LinkClaimHolds a claim timing → ClaimHoldsOf (link_bands a) claim timing
-link_claim_holds a (Best value) timing h = h
-link_claim_holds a NoTiming timing h = h
-link_claim_holds a (Stopped bound value) timing h = h

@@ -1,9 +1,7 @@
 -- The timings of an artery with a band for each link, as a kind of timing that is sought.
 use Rattle.progression.specs.Street.{Street}
-use Rattle.link_theory.specs.GoodLinks.{GoodLinks}
-use Rattle.link_theory.specs.BestLinks.{link_value, BoundedLinks, NoLinks}
+use Rattle.link_theory.specs.BestLinks.{links_of}
 use Rattle.link_proof.specs.LinkAccepted.{IsLinkAccepted}
-use Rattle.link_proof.specs.LinkClaims.{AreBest}
 use Rattle.link_proof.specs.LinkFamilies.{links}
 use Rattle.branch_tree.specs.Enough.{sets_in}
 use Rattle.branch_tree.specs.Kinds.{Kind}
@@ -14,14 +12,10 @@ use Rattle.multi_band.specs.LinkSites.{IsLinkSiteOf}
 
 abbrev pub link_bands : (a : Street) → Kind (link_rules a)
 link_bands a = record {
-  IsGood = GoodLinks a;
-  worth = link_value a;
+  objective = links_of a;
   names = links;
   IsSite = IsLinkSiteOf a;
   sets = sets_in (link_program a);
   IsProof = IsLinkLeaf a;
   IsAccepted = IsLinkAccepted a;
-  IsBest = AreBest a;
-  NoneGood = NoLinks a;
-  IsBounded = BoundedLinks a;
 }

@@ -5,11 +5,11 @@ use Rattle.rational_theory.specs.Rational.{ℚ}
 use Rattle.rational_theory.specs.Rows.{dot}
 use Rattle.narrow_fraction.specs.Attempt.{earlier}
 use Rattle.progression.specs.Street.{Street, count}
-use Rattle.progression.specs.TimingRecord.{TimingRecord}
+use Rattle.progression.specs.TimingRecord.{TimingRecord, base}
 use Rattle.progression.specs.declared.parts.Dir.{Dir}
 use Rattle.progression.specs.declared.parts.Dir.TheVariants.{Outbound, Inbound}
 use Rattle.linear_theory.specs.Boxes.{Area}
-use Rattle.link_theory.specs.LinkRecord.{LinkRecord, with_halves}
+use Rattle.link_theory.specs.LinkRecord.{LinkRecord, link_banded}
 use Rattle.link_theory.specs.GoodLinks.{GoodLinks}
 use Rattle.link_theory.specs.BestLinks.{link_value}
 use Rattle.link_theory.specs.LinkColumns.{half_place}
@@ -41,7 +41,7 @@ halves_at a x d = ticks_by_link a x (half_place (count a) d)
 
 -- about the lines of a timing
 abbrev pub linked : Street → List ℚ → TimingRecord → LinkRecord
-linked a x t = with_halves t (halves_at a x Outbound) (halves_at a x Inbound)
+linked a x t = link_banded t.first_out (halves_at a x Outbound) t.first_in (halves_at a x Inbound) (base t)
 
 -- what becomes of its lines, with the halves about them
 unfoldable pub link_recovered : Street → Area → List ℚ → Outcome LinkRecord

@@ -3,10 +3,10 @@ use Rattle.std.specs.Prelude.{ℕ, pos, ◌*◌, ◌-◌, List, ◌++◌, codes,
 use Rattle.std.specs.List.{flat_map, range_with_len}
 use Rattle.rational_theory.specs.Rational.{ℚ, over}
 use Rattle.progression.specs.Street.{Street, count}
-use Rattle.progression.specs.TimingRecord.{cycle}
+use Rattle.progression.specs.BaseRecord.{cycle}
 use Rattle.progression.specs.declared.parts.Dir.{Dir}
 use Rattle.progression.specs.declared.parts.Dir.TheVariants.{Outbound, Inbound}
-use Rattle.link_theory.specs.LinkRecord.{LinkRecord, lines, half}
+use Rattle.link_theory.specs.LinkRecord.{LinkRecord, link_base, lines, half}
 use Rattle.link_theory.specs.BestLinks.{link_value}
 use Rattle.link_proof.specs.LinkFamilies.{links}
 use Rattle.multi_band.specs.LinkTold.{LinkFound}
@@ -17,7 +17,7 @@ use Rattle.diagram_print.specs.Report.{verdict_lines}
 
 -- a link's band is twice its half, as a fraction of the cycle
 abbrev pub link_share : Street → LinkRecord → Dir → ℕ → ℚ
-link_share a t d i = over (pos (2 * half t d i)) (cycle a (lines t))
+link_share a t d i = over (pos (2 * half t d i)) (cycle a (link_base t))
 
 abbrev pub link_band_line : Street → LinkRecord → Dir → ℕ → List ℕ
 link_band_line a t d i = measure_line (link_name (codes " band ") d i) (link_share a t d i) 6

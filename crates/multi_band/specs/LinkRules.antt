@@ -22,12 +22,14 @@ link_meaning a = record {
   IsGood = IsLinkTiming a;
   Refutes = RefutesLinkBox a;
   Covers = CoversLinkBox a;
-  covers_more = links_cover_more a;
-  not_refuted = links_not_refuted a;
-  inside = links_inside a;
-  has_numbers = links_have_numbers a;
-  low_falls = links_low_falls a;
-  high_falls = links_high_falls a;
+  laws = record {
+    covers_more = links_cover_more a;
+    not_refuted = links_not_refuted a;
+    inside = links_inside a;
+    has_numbers = links_have_numbers a;
+    low_falls = links_low_falls a;
+    high_falls = links_high_falls a;
+  };
 }
 
 -- ---- the relaxation

@@ -3,12 +3,13 @@
 ghost use Rattle.std.specs.Prelude.{◌≡◌, ◌++◌, ◌<◌, ◌≤◌, length, OnOk};
 ghost use Rattle.progression.specs.Street.{count};
 ghost use Rattle.multi_band.specs.LinkReport.{link_band_line, both_band_lines, link_band_lines};
+ghost use Rattle.time_space.specs.Timing.{IsFor};
+ghost use Rattle.link_theory.specs.LinkRecord.{link_base};
 
 use artery_model::{Artery, Dir};
 use diagram_print::{push_link_name, push_measure_line};
 use link_space::LinkTiming;
 use narrow_fraction::Memory;
-use time_space::cycle;
 use timing_measures::quotient;
 
 /// Writes the line of a direction's band on a link, a fraction of the cycle: it reaches half as far to either side of the line.
@@ -24,7 +25,7 @@ fn push_link_band(
     ensures { OnOk result (out.new.items ≡ out.old.items ++ link_band_line artery.now timing.now dir link) }
 {
     push_link_name(out, link, " band ", dir)?;
-    let share = quotient(2 * timing.half(dir, link), cycle(artery, timing.lines()));
+    let share = quotient(2 * timing.half(dir, link), timing.base().cycle(artery));
     push_measure_line(out, share, 6)
 }
 
@@ -49,7 +50,7 @@ pub fn push_link_bands(
     artery: &Artery,
     timing: &LinkTiming,
 ) -> Result<(), Memory>
-    requires { length timing.now.patterns ≡ count artery.now }
+    requires { IsFor artery.now (link_base timing.now) }
     ensures { OnOk result (out.new.items ≡ out.old.items ++ link_band_lines artery.now timing.now) }
 {
     for link in 1..artery.count() {

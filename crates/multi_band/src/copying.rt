@@ -1,37 +1,41 @@
 //! Copies.
 
-ghost use Rattle.std.specs.Prelude.{◌≡◌, IfOk};
+ghost use Rattle.std.specs.Prelude.{◌≡◌, ◌<◌, ◌^◌, pos, IfOk};
+ghost use Rattle.progression.specs.TimingRecord.{first};
+ghost use Rattle.link_theory.specs.LinkRecord.{lines};
 
-use branch_tree::copied;
 use link_space::LinkTiming;
 use narrow_fraction::Memory;
 use progression::Dir;
 use std::alloc::Global;
+use time_space::{Timing, copied};
+
+/// Where the line of a direction crosses, in ticks.
+fn first_of(timing: &LinkTiming, dir: Dir) -> u128
+    ensures value { first (lines timing.now) dir ≡ pos result }
+    ensures most { result < 2 ^ 80 }
+{
+    timing.first(dir).unsigned_abs()
+}
 
 /// The same link timing again.
 pub fn copied_links(alloc: Global, timing: &LinkTiming) -> Result<LinkTiming, Memory>
     ensures { IfOk result (λ copy. copy ≡ timing.now) }
 {
-    let lines = timing.lines();
-    let patterns = copied(alloc, lines.patterns())?;
-    let reds = copied(alloc, lines.reds())?;
-    let run_out = copied(alloc, lines.run_out())?;
-    let run_in = copied(alloc, lines.run_in())?;
+    let base = timing.base().copied(alloc)?;
     let half_out = copied(alloc, timing.half_out())?;
     let half_in = copied(alloc, timing.half_in())?;
-    match LinkTiming::new(
-        lines.grid(),
-        lines.unit(),
-        patterns,
-        reds,
-        run_out,
-        run_in,
-        lines.first(Dir::Outbound) as u128,
-        lines.first(Dir::Inbound) as u128,
-        half_out,
-        half_in,
-    ) {
-        Some(copy) => Ok(copy),
-        None => unreachable!(),
-    }
+    let first_out = first_of(timing, Dir::Outbound);
+    let first_in = first_of(timing, Dir::Inbound);
+    Ok(LinkTiming::around(base, first_out, half_out, first_in, half_in))
+}
+
+/// The two lines of a link timing, as a timing whose bands are lines.
+pub fn two_lines(alloc: Global, timing: &LinkTiming) -> Result<Timing, Memory>
+    ensures { IfOk result (λ made. made ≡ lines timing.now) }
+{
+    let base = timing.base().copied(alloc)?;
+    let first_out = first_of(timing, Dir::Outbound);
+    let first_in = first_of(timing, Dir::Inbound);
+    Ok(base.banded(first_out, 0, first_in, 0))
 }

@@ -8,14 +8,13 @@ ghost use Rattle.link_theory.specs.LinkVertices.{IsLinkVertex};
 ghost use Rattle.offset_recovery.specs.Answers.{IsOutcome};
 ghost use Rattle.multi_band.specs.{LinkReady.{IsLinkReady}, LinkRecovered.{link_column_tests, link_recovered, IsLinkSound}};
 
-use artery_model::bounds::{LEAST_SIGNALS, MOST_SIGNALS};
 use artery_model::{Artery, Dir};
 use link_space::{LinkTiming, half_column};
 use named_row::Point;
 use narrow_fraction::Memory;
 use offset_recovery::{
     BandKind, Lines, LinkColumn, RecoverFault, Recovered, WideTiming, check_by_link, check_lines,
-    column_ticks, grid, read_vertex, ticks_by_link,
+    column_ticks, read_vertex, ticks_by_link,
 };
 use search_box::{SearchBox, law_valid_street};
 use std::alloc::Global;
@@ -87,26 +86,17 @@ impl BandKind for LinkBands {
         unit: u128,
         lines: Lines,
     ) -> Result<LinkTiming, Memory> {
+        // its contract says that the artery is valid
+        artery.known_valid();
         let half_out = ticks_by_link::<Halves>(alloc, artery, point, unit, Dir::Outbound)?;
         let half_in = ticks_by_link::<Halves>(alloc, artery, point, unit, Dir::Inbound)?;
-        let count = artery.count() as usize;
-        prove!(LEAST_SIGNALS <= count && count <= MOST_SIGNALS);
-        let grid = grid(artery, point, unit);
-        match LinkTiming::new(
-            grid,
-            unit,
-            lines.patterns,
-            lines.reds,
-            lines.run_out,
-            lines.run_in,
+        Ok(LinkTiming::around(
+            lines.base,
             lines.first_out,
-            lines.first_in,
             half_out,
+            lines.first_in,
             half_in,
-        ) {
-            Some(timing) => Ok(timing),
-            None => unreachable!(),
-        }
+        ))
     }
 }
 

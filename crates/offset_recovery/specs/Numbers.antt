@@ -4,18 +4,18 @@ use Rattle.rational_theory.specs.Rational.{ℚ, ◌≤ℚ◌}
 use Rattle.progression.specs.Speeds.{number, run_high}
 use Rattle.rational_theory.specs.Rows.{AllNonNegative}
 use Rattle.progression.specs.Street.{Street, count, signal_of, red_parts, left_against, HasSignal, HasLink}
-use Rattle.progression.specs.TimingRecord.{TimingRecord}
+use Rattle.progression.specs.BaseRecord.{BaseRecord}
+use Rattle.progression.specs.TimingRecord.{TimingRecord, base}
 use Rattle.progression.specs.Green.{is_early}
 use Rattle.progression.specs.Columns.{BandOf, Frequency, WaitOf, RunOf, numbered}
 use Rattle.progression.specs.declared.parts.Dir.{Dir}
 use Rattle.progression.specs.declared.parts.Dir.TheVariants.{Outbound, Inbound}
-use Rattle.linear_theory.specs.Places.{place, width}
+use Rattle.linear_theory.specs.Places.{width}
 use Rattle.recovery_theory.specs.Ticks.{common, unit_of, ticks_of}
 use Rattle.recovery_theory.specs.Placing.{pattern_at, with_out, reds_of, with_reds}
 use Rattle.narrow_fraction.specs.Attempt.{attempt, first_below}
 use Rattle.offset_recovery.specs.declared.outcome.WideTiming.{WideTiming}
 use Rattle.offset_recovery.specs.Tests.{product_test, unit_test}
-use Rattle.offset_recovery.specs.ByLink.{ticks_by_link}
 
 -- each product with the number of parts fits
 abbrev pub ProductsFit : Street → List ℚ → Type 0
@@ -49,9 +49,6 @@ RunsFit a x = (d : Dir) (i : ℕ) → HasLink a i → ticks_of a x (RunOf d i) <
 abbrev pub patterns_at : Street → List ℚ → List ℕ
 patterns_at a x = numbered (count a) 1 (pattern_at a x)
 
-abbrev pub runs_at : Street → List ℚ → Dir → List ℕ
-runs_at a x d = ticks_by_link a x (λ i. place (count a) (RunOf d i))
-
 abbrev pub reds_at : Street → List ℚ → List ℕ
 reds_at a x = reds_of a (unit_of a x) (ticks_of a x) (pattern_at a x)
 
@@ -59,9 +56,9 @@ reds_at a x = reds_of a (unit_of a x) (ticks_of a x) (pattern_at a x)
 abbrev pub out_at : Street → List ℚ → TimingRecord
 out_at a x = with_out a (unit_of a x) (ticks_of a x) (pattern_at a x)
 
--- and before its first inbound crossing
-abbrev pub reds_plan : Street → List ℚ → TimingRecord
-reds_plan a x = with_reds a (unit_of a x) (ticks_of a x) (pattern_at a x)
+-- the base of the timing
+abbrev pub base_at : Street → List ℚ → BaseRecord
+base_at a x = base (with_reds a (unit_of a x) (ticks_of a x) (pattern_at a x))
 
 -- how many parts after the common red's start the outbound red ends: at once where the left turn against it lags
 abbrev pub end_parts : Street → ℕ → ℕ → ℕ

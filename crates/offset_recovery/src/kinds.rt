@@ -6,15 +6,15 @@ ghost use Rattle.narrow_fraction.specs.Attempt.{attempt};
 ghost use Rattle.progression.specs.Street.{Street};
 ghost use Rattle.linear_theory.specs.Boxes.{Area};
 ghost use Rattle.recovery_theory.specs.{Ticks.{unit_of}, Vertices.{IsWhole}};
-ghost use Rattle.offset_recovery.specs.{declared.outcome.WideTiming.{WideTiming}, Recovered.{placed_tests}, Placed.{ArePlaced}};
-ghost use Rattle.offset_recovery.specs.Numbers.{IsReady, ProductsFit, RunsFit};
+ghost use Rattle.offset_recovery.specs.{declared.outcome.WideTiming.{WideTiming}, Recovered.{line_tests, placed_tests}, Placed.{ArePlaced}};
+ghost use Rattle.offset_recovery.specs.Numbers.{IsReady, ProductsFit};
 
 use crate::columns::check_columns;
 use crate::outcome::WideTiming;
 use crate::placed::Lines;
-use crate::ticks::{band, grid};
-use artery_model::bounds::{LEAST_SIGNALS, MOST_SIGNALS};
+use crate::ticks::band;
 use artery_model::{Artery, Dir};
+use loop_rows::Progression;
 use named_row::Point;
 use narrow_fraction::Memory;
 use search_box::{SearchBox, law_valid_street};
@@ -52,7 +52,7 @@ pub trait BandKind {
         requires known { IsKnown artery.now point.now.values.items }
         requires unit { unit ≡ unit_of artery.now point.now.values.items }
         ensures tests { result ≡ attempt (tests artery.now point.now.values.items) tt }
-        ensures runs { OnOk result (RunsFit artery.now point.now.values.items) };
+        ensures lines { OnOk result (line_tests artery.now point.now.values.items ≡ None) };
 
     /// The timing of these lines, whose numbers fit.
     fn around(
@@ -70,10 +70,7 @@ pub trait BandKind {
         ensures { IfOk result (λ t. t ≡ timing artery.now point.now.values.items) };
 }
 
-/// A band of the whole artery in each direction.
-pub struct WholeBands;
-
-impl BandKind for WholeBands {
+impl BandKind for Progression {
     ghost use Rattle.recovery_theory.specs.{Placing.{timing_of}, Vertices.{IsLongVertex}};
     ghost use Rattle.offset_recovery.specs.Recovered.{column_tests};
 
@@ -104,25 +101,12 @@ impl BandKind for WholeBands {
         unit: u128,
         lines: Lines,
     ) -> Result<Timing, Memory> {
-        let count = artery.count() as usize;
-        prove!(LEAST_SIGNALS <= count && count <= MOST_SIGNALS);
-        let grid = grid(artery, point, unit);
         let band_out = band(artery, point, unit, Dir::Outbound);
         let band_in = band(artery, point, unit, Dir::Inbound);
-        match Timing::new(
-            grid,
-            unit,
-            lines.patterns,
-            lines.reds,
-            lines.run_out,
-            lines.run_in,
-            lines.first_out,
-            lines.first_in,
-            band_out,
-            band_in,
-        ) {
-            Some(timing) => Ok(timing),
-            None => unreachable!(),
-        }
+        Ok(
+            lines
+                .base
+                .banded(lines.first_out, band_out, lines.first_in, band_in),
+        )
     }
 }

@@ -1,9 +1,9 @@
 //! Columns of which each link has one in each direction.
 
-ghost use Rattle.std.specs.Prelude.{◌≡◌, ◌<◌, ◌≤◌, ℕ, List, IfOk};
+ghost use Rattle.std.specs.Prelude.{◌≡◌, ℕ, List, IfOk};
 ghost use Rattle.rational_theory.specs.Rational.{ℚ};
 ghost use Rattle.narrow_fraction.specs.Attempt.{attempt};
-ghost use Rattle.progression.specs.{Street.{Street, count}, declared.parts.Dir.{Dir}};
+ghost use Rattle.progression.specs.{Street.{Street, count, HasLink}, declared.parts.Dir.{Dir}};
 ghost use Rattle.recovery_theory.specs.Ticks.{unit_of, ticks_in};
 ghost use Rattle.offset_recovery.specs.ByLink.{tests_by_link, ticks_by_link};
 
@@ -26,16 +26,14 @@ pub trait LinkColumn {
 
     /// The place of a link's column.
     fn column(artery: &Artery, dir: Dir, link: u32) -> u32
-        requires first { 1 ≤ link }
-        requires last { link < count artery.now }
+        requires link { HasLink artery.now link }
         ensures { result ≡ at artery.now dir link };
 
     /// The ticks of a link's column.
     fn ticks(artery: &Artery, point: &Point, unit: u128, dir: Dir, link: u32) -> u128
         requires known { IsKnown artery.now point.now.values.items }
         requires unit { unit ≡ unit_of artery.now point.now.values.items }
-        requires first { 1 ≤ link }
-        requires last { link < count artery.now }
+        requires link { HasLink artery.now link }
         ensures { result ≡ ticks_in artery.now point.now.values.items (at artery.now dir link) };
 }
 

@@ -1,28 +1,26 @@
 //! The two lines of a vertex's timing, with all that they cross.
 
 ghost use Rattle.std.specs.Prelude.{◌≡◌, ◌<◌, ◌≤◌, ◌^◌, None, pos};
-ghost use Rattle.progression.specs.{TimingRecord.{common_red}, Street.{count}};
+ghost use Rattle.progression.specs.{BaseRecord.{common_red}, Street.{count}};
 ghost use Rattle.recovery_theory.specs.Ticks.{unit_of};
-ghost use Rattle.offset_recovery.specs.{Recovered.{red_tests, placed_tests}, Numbers.{IsReady, RunsFit, reds_at, reds_plan}};
+ghost use Rattle.offset_recovery.specs.{Recovered.{line_tests, red_tests, placed_tests}, Numbers.{IsReady, reds_at, base_at}};
 ghost use Rattle.offset_recovery.specs.{Placed.{ArePlaced}, Answers.{Answers}};
 
 use crate::links::{Runs, ticks_by_link};
 use crate::lists::patterns;
 use crate::outcome::RecoverFault;
 use crate::placing::{checked_first_in, checked_first_out, reds};
+use crate::ticks::grid;
+use artery_model::bounds::{LEAST_SIGNALS, MOST_SIGNALS};
 use artery_model::{Artery, Dir};
 use named_row::Point;
 use std::alloc::Global;
+use time_space::Base;
 
-/// The numbers of a timing that don't speak of its bands' widths, in ticks but for the patterns.
+/// The base of a timing and where its lines cross, in ticks.
 #[derive(Drop)]
 pub struct Lines {
-    /// Each signal's left turn pattern.
-    pub patterns: Vec<u32>,
-    /// Where the common reds start.
-    pub reds: Vec<u128>,
-    pub run_out: Vec<u128>,
-    pub run_in: Vec<u128>,
+    pub base: Base,
     /// Where the outbound line crosses signal 1.
     pub first_out: u128,
     /// Where the inbound line crosses the last signal.
@@ -34,13 +32,13 @@ fn last_red(artery: &Artery, point: &Point, reds: &[u128]) -> u128
     requires some { 2 ≤ count artery.now }
     requires reds { reds.now ≡ reds_at artery.now point.now.values.items }
     requires fit { red_tests artery.now point.now.values.items ≡ None }
-    ensures value { pos result ≡ common_red (reds_plan artery.now point.now.values.items) (count artery.now) }
+    ensures value { pos result ≡ common_red (base_at artery.now point.now.values.items) (count artery.now) }
     ensures small { result < 2 ^ 80 }
 {
     reds[artery.count() as usize - 1]
 }
 
-/// The lines of a vertex whose runs fit a timing, where its reds and first crossings fit too. The error is the first that
+/// The lines of a vertex whose frequency and runs fit a timing, where its reds and first crossings fit too. The error is the first that
 /// doesn't, or want of memory.
 pub fn place_lines(
     alloc: Global,
@@ -50,7 +48,7 @@ pub fn place_lines(
 ) -> Result<Lines, RecoverFault>
     requires ready { IsReady artery.now point.now.values.items }
     requires unit { unit ≡ unit_of artery.now point.now.values.items }
-    requires runs { RunsFit artery.now point.now.values.items }
+    requires lines { line_tests artery.now point.now.values.items ≡ None }
     ensures { Answers (placed_tests artery.now point.now.values.items) (ArePlaced artery.now point.now.values.items) result }
 {
     let patterns = patterns(alloc, artery, point)?;
@@ -61,15 +59,17 @@ pub fn place_lines(
         Ok(reds) => reds,
         Err(fault) => return Err(fault),
     };
-    prove!(2 <= artery.count());
+    let count = artery.count() as usize;
+    prove!(LEAST_SIGNALS <= count && count <= MOST_SIGNALS);
     let last = last_red(artery, point, reds.as_slice());
     let first_in = checked_first_in(artery, point, unit, last)?;
-    Ok(Lines {
-        patterns,
-        reds,
-        run_out,
-        run_in,
-        first_out,
-        first_in,
-    })
+    let grid = grid(artery, point, unit);
+    match Base::new(grid, unit, patterns, reds, run_out, run_in) {
+        Some(base) => Ok(Lines {
+            base,
+            first_out,
+            first_in,
+        }),
+        None => unreachable!(),
+    }
 }

@@ -3,15 +3,16 @@
 ghost use Rattle.std.specs.Prelude.{◌≡◌, ◌<◌, ◌^◌, length, None, IfOk};
 ghost use Rattle.linear_theory.specs.Boxes.{IsBoxOf};
 ghost use Rattle.recovery_theory.specs.{Ticks.{unit_of}, Vertices.{IsVertex, IsWhole}};
-ghost use Rattle.offset_recovery.specs.{Inside.{SplitsInside}, Recovered.{recovered, placed_tests, number_tests_by}};
-ghost use Rattle.offset_recovery.specs.{Numbers.{IsReady, RunsFit}, Answers.{Answers, IsRead, IsOutcome, IsSound}};
+ghost use Rattle.offset_recovery.specs.{Inside.{SplitsInside}, Recovered.{recovered, line_tests, placed_tests, number_tests_by}};
+ghost use Rattle.offset_recovery.specs.{Numbers.{IsReady}, Answers.{Answers, IsRead, IsOutcome, IsSound}};
 
-use crate::kinds::{BandKind, WholeBands};
+use crate::kinds::BandKind;
 use crate::outcome::{RecoverFault, Recovered};
 use crate::placed::place_lines;
 use crate::splits::{Vertex, split_place};
 use crate::unit::common_unit;
 use artery_model::Artery;
+use loop_rows::Progression;
 use named_row::Point;
 use search_box::{SearchBox, law_valid_street};
 use std::alloc::Global;
@@ -28,7 +29,7 @@ fn placed<K: BandKind>(
     requires ready { IsReady artery.now point.now.values.items }
     requires unit { unit ≡ unit_of artery.now point.now.values.items }
     requires columns { K.tests artery.now point.now.values.items ≡ None }
-    requires runs { RunsFit artery.now point.now.values.items }
+    requires lines { line_tests artery.now point.now.values.items ≡ None }
     ensures { Answers (placed_tests artery.now point.now.values.items) (λ t. t ≡ K.timing artery.now point.now.values.items) result }
 {
     match place_lines(alloc, artery, point, unit) {
@@ -103,5 +104,5 @@ pub fn recover(
     // its contract says that the artery is valid
     artery.known_valid();
     law_valid_street();
-    read_vertex::<WholeBands>(alloc, artery, area, point)
+    read_vertex::<Progression>(alloc, artery, area, point)
 }

@@ -6,7 +6,7 @@ use Rattle.progression.specs.TimingRecord.{TimingRecord}
 use Rattle.plan_text.specs.declared.fault.BadText.{BadText}
 use Rattle.plan_text.specs.Spelling.{head_line, end_line}
 use Rattle.plan_text.specs.Lines.{◌>>=◌, fault, line_at, fixed_at, nothing_at}
-use Rattle.plan_text.specs.Reading.{plan_at, timing_of}
+use Rattle.plan_text.specs.Reading.{timing_at, timing_of}
 use Rattle.named_row.specs.declared.names.RowId.{RowId}
 use Rattle.plan_text.specs.declared.fault.TextFault.TheVariants.{Shape}
 use Rattle.certificate_model.specs.Words.{is_text}
@@ -22,7 +22,7 @@ use Rattle.plan_text.proofs.Timings.{timing_again}
 use Rattle.plan_text.proofs.Certificates.{certificate_again, second_text_again}
 use Rattle.plan_text.proofs.NodeLines.{enough}
 use Rattle.plan_text.proofs.Grown.{after_line, one_and, numbered, line_grows, fixed_grows, fixed_later}
-use Rattle.plan_text.proofs.GrownTimings.{plan_read}
+use Rattle.plan_text.proofs.GrownTimings.{timing_read}
 use Rattle.plan_text.proofs.TimingLaws.{TimingLaws, one_band_laws}
 use Rattle.plan_text.proofs.GrownCertificates.{opened, rows_grow, rows_later, nodes_grow, nodes_later, claim_grows, claim_later}
 use Rattle.plan_text.proofs.Wholes.{Whole, NotBefore, whole_then, whole_made, not_before, not_before_made, closing, closing_whole, closing_later}
@@ -37,11 +37,11 @@ timing_whole : (bytes z : List ℕ) → Whole (lines_in bytes + 1) (timing_of by
 unfolding timing_of
 timing_whole bytes z =
     let last = lines_in bytes + 1 in
-    whole_then (after_line 2) last z (fixed_at 1 head_line bytes) (fixed_at 1 head_line (bytes ++ z)) (λ rest. plan_at 2 rest >>= close_timing)
-    (λ rest. plan_at 2 rest >>= close_timing) (fixed_grows last 1 head_line bytes z (omega arith))
-    (λ rest end. whole_then (one_and 10) last z (plan_at 2 rest) (plan_at 2 (rest ++ z)) close_timing close_timing ((plan_read 2).grows last rest z end)
+    whole_then (after_line 2) last z (fixed_at 1 head_line bytes) (fixed_at 1 head_line (bytes ++ z)) (λ rest. timing_at 2 rest >>= close_timing)
+    (λ rest. timing_at 2 rest >>= close_timing) (fixed_grows last 1 head_line bytes z (omega arith))
+    (λ rest end. whole_then (one_and 10) last z (timing_at 2 rest) (timing_at 2 (rest ++ z)) close_timing close_timing ((timing_read 2).grows last rest z end)
     (λ t k. closing_whole t.0 last 10 t.1 z k) (λ t here. closing_later t.0 last 10 t.1 (omega arith)))
-    (λ rest here. not_before (one_and 10) last (plan_at 2 rest) close_timing ((plan_read 2).later last rest (omega arith)) (λ t k. closing_later t.0 last 10 t.1 (omega arith)))
+    (λ rest here. not_before (one_and 10) last (timing_at 2 rest) close_timing ((timing_read 2).later last rest (omega arith)) (λ t k. closing_later t.0 last 10 t.1 (omega arith)))
 
 timing_first : NamesFirstBad timing_of
 unfolding timing_of fixed_at line_at

@@ -1,13 +1,14 @@
 -- The text of a timing, and the same with more bytes.
 use Rattle.std.proofs.Common.{◌≡◌, ℕ, ◌+◌, ◌-◌, ◌≤◌, List, ◌++◌, length, Result, Ok, refl, ap, subst, arith}
-use Rattle.std.specs.Prelude.{slice_index}
-use Rattle.progression.specs.TimingRecord.{TimingRecord}
-use Rattle.time_space.specs.Timing.{plan_of}
+use Rattle.std.specs.Prelude.{pos, slice_index}
+use Rattle.progression.specs.BaseRecord.{BaseRecord}
+use Rattle.progression.specs.TimingRecord.{TimingRecord, banded}
+use Rattle.time_space.specs.Timing.{base_of}
 use Rattle.plan_text.specs.declared.fault.BadText.{BadText}
 use Rattle.plan_text.specs.declared.lines.NumberLine.{NumberLine}
 use Rattle.plan_text.specs.Spelling.{grid_key, unit_key, pattern_key, red_key, run_out_key, run_in_key, first_key, band_key}
 use Rattle.plan_text.specs.Lines.{◌>>=◌, numbers_at}
-use Rattle.plan_text.specs.Reading.{place_of, pattern_place, scale_at, signals_at, both_ways_at, pair_at, Unbanded, base_at, plan_at}
+use Rattle.plan_text.specs.Reading.{place_of, pattern_place, scale_at, signals_at, both_ways_at, pair_at, base_at, timing_at}
 use Rattle.plan_text.specs.FirstBad.{lines_in}
 use Rattle.plan_text.proofs.Grown.{Part, Grows, Reaches, reaches_then, grows_by, after_line, one_and, two_and, numbers_grow, numbers_later}
 
@@ -83,68 +84,78 @@ unfolding both_ways_at
 ways_read out_key in_key line links = two_read (λ a. a) (λ b. b) line (numbers_at out_key (place_of line links 0)) (λ a. numbers_at in_key (place_of (line + 1) links 0))
     (numbers_read out_key (place_of line links 0)) (λ a. numbers_read in_key (place_of (line + 1) links 0))
 
-pair_read : (key : List ℕ) (line : ℕ) → Reads line (two_and (line + 1)) (pair_at key line)
+pub pair_read : (key : List ℕ) (line : ℕ) → Reads line (two_and (line + 1)) (pair_at key line)
 unfolding pair_at
 pair_read key line =
     reads_made (after_line line) line (one_and (line + 1)) (two_and (line + 1)) (numbers_at key (place_of line 2 0)) (λ bytes a. (slice_index a.0 0, slice_index a.0 1, a.1))
     (numbers_read key (place_of line 2 0)) (λ x y. refl) (λ x y. refl) (λ x y z. refl)
 
--- ---- the lines that speak of no band
+-- ---- the lines of a base
 
 abbrev Scale : Type 0
 Scale = ℕ × ℕ × List ℕ
 
-abbrev Pair : Type 0
-Pair = List ℕ × List ℕ × List ℕ
+abbrev Lists : Type 0
+Lists = List ℕ × List ℕ × List ℕ
 
-abbrev base_is : Scale → Pair → Pair → ℕ × ℕ × List ℕ → Unbanded × List ℕ
-base_is scale signals runs first = (plan_of scale.0 scale.1 signals.0 signals.1 runs.0 runs.1 first.0 first.1, first.2)
+abbrev Based : Type 0
+Based = BaseRecord × List ℕ
 
-abbrev from_first : ℕ → Scale → Pair → Pair → Result (Unbanded × List ℕ) BadText
-from_first line scale signals runs = pair_at first_key (line + 6) runs.2 >>= λ first. Ok (base_is scale signals runs first)
+abbrev base_is : Scale → Lists → Lists → Based
+base_is scale signals runs = (base_of scale.0 scale.1 signals.0 signals.1 runs.0 runs.1, runs.2)
 
-abbrev from_runs : ℕ → Scale → Pair → Result (Unbanded × List ℕ) BadText
-from_runs line scale signals = both_ways_at run_out_key run_in_key (line + 4) (length signals.0 - 1) signals.2 >>= from_first line scale signals
+abbrev from_runs : ℕ → Scale → Lists → Result Based BadText
+from_runs line scale signals = both_ways_at run_out_key run_in_key (line + 4) (length signals.0 - 1) signals.2 >>= λ runs. Ok (base_is scale signals runs)
 
-abbrev from_signals : ℕ → Scale → Result (Unbanded × List ℕ) BadText
+abbrev from_signals : ℕ → Scale → Result Based BadText
 from_signals line scale = signals_at (line + 2) scale.2 >>= from_runs line scale
 
-first_read : (line : ℕ) (scale : Scale) (signals : Pair) → ReadsOn (two_and (line + 4 + 2)) (line + 6) (one_and (line + 7)) (from_first line scale signals)
-first_read line scale signals =
-    reads_made (two_and (line + 4 + 2)) (line + 6) (two_and (line + 6 + 1)) (one_and (line + 7)) (λ runs. pair_at first_key (line + 6) runs.2) (base_is scale signals)
-    (reads_rest (two_and (line + 4 + 2)) (line + 6) (two_and (line + 6 + 1)) (λ runs. pair_at first_key (line + 6)) (λ runs. pair_read first_key (line + 6)) (λ runs z. refl))
-    (λ runs f. omega arith) (λ runs f. refl) (λ runs f z. refl)
-
-runs_read : (line : ℕ) (scale : Scale) → ReadsOn (two_and (line + 2 + 2)) (line + 4) (one_and (line + 7)) (from_runs line scale)
+runs_read : (line : ℕ) (scale : Scale) → ReadsOn (two_and (line + 2 + 2)) (line + 4) (one_and (line + 6)) (from_runs line scale)
 runs_read line scale =
-    let ways : Pair → List ℕ → Result Pair BadText = λ signals. both_ways_at run_out_key run_in_key (line + 4) (length signals.0 - 1) in
+    let ways : Lists → List ℕ → Result Lists BadText = λ signals. both_ways_at run_out_key run_in_key (line + 4) (length signals.0 - 1) in
     let read = reads_rest (two_and (line + 2 + 2)) (line + 4) (two_and (line + 4 + 2)) ways (λ signals. ways_read run_out_key run_in_key (line + 4) (length signals.0 - 1)) (λ signals z. refl) in
-    reads_then (two_and (line + 2 + 2)) (line + 4) (two_and (line + 4 + 2)) (line + 6) (one_and (line + 7)) (λ signals. ways signals signals.2)
-    (from_first line scale) read (first_read line scale) (λ runs. omega arith) (λ signals z. refl)
+    reads_made (two_and (line + 2 + 2)) (line + 4) (two_and (line + 4 + 2)) (one_and (line + 6)) (λ signals. ways signals signals.2) (base_is scale) read
+    (λ signals runs. omega arith) (λ signals runs. refl) (λ signals runs z. refl)
 
-later_read : (line : ℕ) → ReadsOn (two_and (line + 2)) (line + 2) (one_and (line + 7)) (from_signals line)
+later_read : (line : ℕ) → ReadsOn (two_and (line + 2)) (line + 2) (one_and (line + 6)) (from_signals line)
 later_read line =
-    reads_then (two_and (line + 2)) (line + 2) (two_and (line + 2 + 2)) (line + 4) (one_and (line + 7)) (λ scale. signals_at (line + 2) scale.2) (from_runs line)
+    reads_then (two_and (line + 2)) (line + 2) (two_and (line + 2 + 2)) (line + 4) (one_and (line + 6)) (λ scale. signals_at (line + 2) scale.2) (from_runs line)
     (reads_rest (two_and (line + 2)) (line + 2) (two_and (line + 2 + 2)) (λ scale. signals_at (line + 2)) (λ scale. signals_read (line + 2)) (λ scale z. refl))
     (runs_read line) (λ signals. omega arith) (λ scale z. refl)
 
-pub base_read : (line : ℕ) → Reads line (one_and (line + 7)) (base_at line)
+pub base_read : (line : ℕ) → Reads line (one_and (line + 6)) (base_at line)
 unfolding base_at
-base_read line = reads_then (after_line line) line (two_and (line + 2)) (line + 2) (one_and (line + 7)) (scale_at line) (λ bytes. from_signals line)
+base_read line = reads_then (after_line line) line (two_and (line + 2)) (line + 2) (one_and (line + 6)) (scale_at line) (λ bytes. from_signals line)
     (scale_read line) (λ bytes. later_read line) (λ scale. refl) (λ bytes z. refl)
+
+-- and the line after them
+pub firsts_read : (line : ℕ) → ReadsOn (one_and (line + 6)) (line + 6) (two_and (line + 6 + 1)) (λ (b : Based). pair_at first_key (line + 6) b.1)
+firsts_read line = reads_rest (one_and (line + 6)) (line + 6) (two_and (line + 6 + 1)) (λ b. pair_at first_key (line + 6)) (λ b. pair_read first_key (line + 6)) (λ b z. refl)
 
 -- ---- the eight lines
 
-abbrev band_then : ℕ → Unbanded × List ℕ → Result (TimingRecord × List ℕ) BadText
-band_then line base = pair_at band_key (line + 7) base.1 >>= λ band. Ok (base.0 band.0 band.1, band.2)
+abbrev Pair : Type 0
+Pair = ℕ × ℕ × List ℕ
 
-band_read : (line : ℕ) → ReadsOn (one_and (line + 7)) (line + 7) (one_and (line + 8)) (band_then line)
-band_read line =
-    reads_made (one_and (line + 7)) (line + 7) (two_and (line + 7 + 1)) (one_and (line + 8)) (λ base. pair_at band_key (line + 7) base.1) (λ base band. (base.0 band.0 band.1, band.2))
-    (reads_rest (one_and (line + 7)) (line + 7) (two_and (line + 7 + 1)) (λ base. pair_at band_key (line + 7)) (λ base. pair_read band_key (line + 7)) (λ base z. refl))
-    (λ base band. omega arith) (λ base band. refl) (λ base band z. refl)
+abbrev from_firsts : ℕ → Based → Pair → Result (TimingRecord × List ℕ) BadText
+from_firsts line b first = pair_at band_key (line + 7) first.2 >>= λ band. Ok (banded (pos first.0) band.0 (pos first.1) band.1 b.0, band.2)
 
-pub plan_read : (line : ℕ) → Reads line (one_and (line + 8)) (plan_at line)
-unfolding plan_at
-plan_read line = reads_then (after_line line) line (one_and (line + 7)) (line + 7) (one_and (line + 8)) (base_at line) (λ bytes. band_then line)
-    (base_read line) (λ bytes. band_read line) (λ base. refl) (λ bytes z. refl)
+abbrev from_base : ℕ → Based → Result (TimingRecord × List ℕ) BadText
+from_base line b = pair_at first_key (line + 6) b.1 >>= from_firsts line b
+
+bands_read : (line : ℕ) (b : Based) → ReadsOn (two_and (line + 6 + 1)) (line + 7) (one_and (line + 8)) (from_firsts line b)
+bands_read line b =
+    reads_made (two_and (line + 6 + 1)) (line + 7) (two_and (line + 7 + 1)) (one_and (line + 8)) (λ first. pair_at band_key (line + 7) first.2)
+    (λ first band. (banded (pos first.0) band.0 (pos first.1) band.1 b.0, band.2))
+    (reads_rest (two_and (line + 6 + 1)) (line + 7) (two_and (line + 7 + 1)) (λ first. pair_at band_key (line + 7)) (λ first. pair_read band_key (line + 7)) (λ first z. refl))
+    (λ first band. omega arith) (λ first band. refl) (λ first band z. refl)
+
+numbers_after : (line : ℕ) → ReadsOn (one_and (line + 6)) (line + 6) (one_and (line + 8)) (from_base line)
+numbers_after line =
+    reads_then (one_and (line + 6)) (line + 6) (two_and (line + 6 + 1)) (line + 7) (one_and (line + 8)) (λ b. pair_at first_key (line + 6) b.1) (from_firsts line)
+    (firsts_read line) (bands_read line) (λ first. omega arith) (λ b z. refl)
+
+pub timing_read : (line : ℕ) → Reads line (one_and (line + 8)) (timing_at line)
+unfolding timing_at
+timing_read line = reads_then (after_line line) line (one_and (line + 6)) (line + 6) (one_and (line + 8)) (base_at line) (λ bytes. from_base line)
+    (base_read line) (λ bytes. numbers_after line) (λ b. refl) (λ bytes z. refl)

@@ -3,9 +3,9 @@ use Rattle.std.proofs.Common.{◌≡◌, ℕ, ◌+◌, List, Ok}
 use Rattle.plan_text.specs.TimingTexts.{TimingText, one_band}
 use Rattle.plan_text.proofs.WordLines.{ended_and}
 use Rattle.plan_text.proofs.TextLaws.{IsTextOf}
-use Rattle.plan_text.proofs.Timings.{plan_takes, plan_again}
+use Rattle.plan_text.proofs.Timings.{timing_numbers_take, timing_numbers_again}
 use Rattle.plan_text.proofs.Grown.{one_and}
-use Rattle.plan_text.proofs.GrownTimings.{Reads, plan_read}
+use Rattle.plan_text.proofs.GrownTimings.{Reads, timing_read}
 
 pub record TimingLaws {T : Type 0} (text : TimingText T) : Type 0 where
   -- what is read is spelled so, and the program can hold it
@@ -16,4 +16,4 @@ pub record TimingLaws {T : Type 0} (text : TimingText T) : Type 0 where
   pub reads : (line : ℕ) → Reads line (one_and (line + text.height)) (text.read line)
 
 pub one_band_laws : TimingLaws one_band
-one_band_laws = record { takes = plan_takes; again = plan_again; reads = plan_read }
+one_band_laws = record { takes = timing_numbers_take; again = timing_numbers_again; reads = timing_read }

@@ -1,15 +1,17 @@
 -- The two laws of the text of a timing and of its parts: what is read is spelled so, and what is spelled so is read.
-use Rattle.std.proofs.Common.{◌≡◌, ℕ, ◌+◌, ◌-◌, ◌<◌, ◌≤◌, ◌^◌, List, [], ◌∷◌, ◌++◌, map, length, All, Result, Ok, Err, refl, sym, ap, subst, ◌∙◌, arith}
-use Rattle.std.specs.Prelude.{pos, unsigned_abs, IfOk, slice_index}
+use Rattle.std.proofs.Common.{◌≡◌, ℕ, ◌+◌, ◌-◌, ◌<◌, ◌≤◌, ◌^◌, List, [], ◌∷◌, ◌++◌, map, length, get_or, All, Result, Ok, Err, refl, sym, ap, subst, ◌∙◌, arith}
+use Rattle.std.specs.Prelude.{ℤ, pos, unsigned_abs, IfOk, slice_index}
 use Rattle.std.specs.List.{AllByRecursion}
 use Rattle.std.proofs.lemmas.List.Elements.{All-from_recursion, recursion_from_All}
-use Rattle.progression.specs.TimingRecord.{TimingRecord}
-use Rattle.time_space.specs.Timing.{IsTiming, plan_of}
+use Rattle.progression.specs.BaseRecord.{BaseRecord}
+use Rattle.progression.specs.TimingRecord.{TimingRecord, base, banded}
+use Rattle.time_space.specs.Timing.{AreOfBase, base_of}
 use Rattle.plan_text.specs.declared.fault.TextEnd.{TextEnd}
 use Rattle.plan_text.specs.declared.lines.NumberLine.{NumberLine}
-use Rattle.plan_text.specs.Spelling.{spelled, head_line, grid_key, unit_key, pattern_key, red_key, run_out_key, run_in_key, first_key, band_key, end_line, base_lines, plan_lines, timing_text, IsHeld}
+use Rattle.plan_text.specs.Spelling.{spelled, head_line, grid_key, unit_key, pattern_key, red_key, run_out_key, run_in_key, first_key}
+use Rattle.plan_text.specs.Spelling.{band_key, end_line, base_lines, firsts_line, number_lines, timing_text, IsHeldBase, IsHeldFirst, IsHeld}
 use Rattle.plan_text.specs.Lines.{◌>>=◌, Gives, fixed_at, nothing_at, numbers_at}
-use Rattle.plan_text.specs.Reading.{place_of, pattern_place, scale_at, signals_at, both_ways_at, pair_at, Unbanded, base_at, plan_at, timing_of}
+use Rattle.plan_text.specs.Reading.{place_of, pattern_place, scale_at, signals_at, both_ways_at, pair_at, base_at, timing_at, timing_of}
 use Rattle.plan_text.specs.TimingTexts.{one_band}
 use Rattle.plan_text.proofs.WordLines.{ended_and}
 use Rattle.plan_text.proofs.TextLaws.{IsTextOf}
@@ -152,16 +154,21 @@ pair_takes key line bytes x e =
       second = two.2;
     })
 
--- ---- the lines that speak of no band
+-- two numbers that were read are small
+pub pair_small : (key : List ℕ) (line : ℕ) (bytes ns rest : List ℕ) → numbers_at key (place_of line 2 0) bytes ≡ Ok (ns, rest) → (k d : ℕ) → k < 2 → get_or ns k d < 2 ^ 80
+pair_small key line bytes ns rest e k d lt =
+    let suits = (numbers_take key (place_of line 2 0) bytes (ns, rest) e).1 in
+    let few = suits.fewest in
+    small_of (place_of line 2 0) ns suits k d (omega (arith, lt, few))
 
-fits : (line : ℕ) (b0 b1 b2 b3 : List ℕ) (s : ℕ × ℕ × List ℕ) (g r : List ℕ × List ℕ × List ℕ) (f : ℕ × ℕ × List ℕ) → scale_at line b0 ≡ Ok s
-    → signals_at (line + 2) b1 ≡ Ok g → both_ways_at run_out_key run_in_key (line + 4) (length g.0 - 1) b2 ≡ Ok r → pair_at first_key (line + 6) b3 ≡ Ok f
-    → (band_out band_in : ℕ) → IsSmall band_out → IsSmall band_in → IsTiming s.0 s.1 g.0 g.1 r.0 r.1 f.0 f.1 band_out band_in
-fits line b0 b1 b2 b3 s g r f es eg er ef band_out band_in out in' =
+-- ---- the lines of a base
+
+fits : (line : ℕ) (b0 b1 b2 : List ℕ) (s : ℕ × ℕ × List ℕ) (g r : List ℕ × List ℕ × List ℕ) → scale_at line b0 ≡ Ok s
+    → signals_at (line + 2) b1 ≡ Ok g → both_ways_at run_out_key run_in_key (line + 4) (length g.0 - 1) b2 ≡ Ok r → AreOfBase s.0 s.1 g.0 g.1 r.0 r.1
+fits line b0 b1 b2 s g r es eg er =
     let scale = scale_takes line b0 s es in
     let signals = signals_take (line + 2) b1 g eg in
     let runs = ways_take run_out_key run_in_key (line + 4) (length g.0 - 1) b2 r er in
-    let first = pair_takes first_key (line + 6) b3 f ef in
     let p = signals.patterns in
     let q = signals.reds in
     let o = runs.outbound in
@@ -180,119 +187,94 @@ fits line b0 b1 b2 b3 s g r f es eg er ef band_out band_in out in' =
       reds_each = small_of (place_of (line + 2 + 1) (length g.0) 0) g.1 q;
       run_out_each = small_of (place_of (line + 4) (length g.0 - 1) 0) r.0 o;
       run_in_each = small_of (place_of (line + 4 + 1) (length g.0 - 1) 0) r.1 i;
-      first_out_most = first.first;
-      first_in_most = first.second;
-      band_out_most = out;
-      band_in_most = in';
     }
+
+-- the numbers that the code read
+pub base_fits : (line grid unit : ℕ) (bytes after rest more patterns reds run_out run_in : List ℕ) → scale_at line bytes ≡ Ok (grid, unit, after)
+    → signals_at (line + 2) after ≡ Ok (patterns, reds, rest) → both_ways_at run_out_key run_in_key (line + 4) (length patterns - 1) rest ≡ Ok (run_out, run_in, more)
+    → AreOfBase grid unit patterns reds run_out run_in
+base_fits line grid unit bytes after rest more patterns reds run_out run_in = fits line bytes after rest (grid, unit, after) (patterns, reds, rest) (run_out, run_in, more)
 
 pub abs_pos : (ns : List ℕ) → map unsigned_abs (map pos ns) ≡ ns
 abs_pos [] = refl
 abs_pos (n ∷ ns) = ap (λ (x : List ℕ). n ∷ x) (abs_pos ns)
 
--- a timing whose numbers are in their ranges is held
-pub timing_is_held : (t : TimingRecord) (reds : List ℕ) (first_out first_in : ℕ) → IsTiming t.grid t.unit t.patterns reds t.run_out t.run_in first_out first_in t.band_out t.band_in
-    → map pos reds ≡ t.reds → t.first_out ≡ pos first_out → t.first_in ≡ pos first_in → IsHeld t
-timing_is_held t reds first_out first_in ranges is out in' =
-    let reds_are : reds ≡ map unsigned_abs t.reds = sym (abs_pos reds) ∙ ap (map unsigned_abs) is in
-    let out_is : first_out ≡ unsigned_abs t.first_out = sym (ap unsigned_abs out) in
-    let in_is : first_in ≡ unsigned_abs t.first_in = sym (ap unsigned_abs in') in
-    record {
-      ranges = rw (← reds_are, ← out_is, ← in_is) ranges;
-      reds = sym is ∙ ap (map pos) reds_are;
-      first_out = out ∙ ap pos out_is;
-      first_in = in' ∙ ap pos in_is;
-    }
+-- a base whose numbers are in their ranges is held
+pub base_is_held : (b : BaseRecord) (reds : List ℕ) → AreOfBase b.grid b.unit b.patterns reds b.run_out b.run_in → map pos reds ≡ b.reds → IsHeldBase b
+base_is_held b reds ranges is =
+    let reds_are : reds ≡ map unsigned_abs b.reds = sym (abs_pos reds) ∙ ap (map unsigned_abs) is in
+    record { ranges = rw (← reds_are) ranges; reds = sym is ∙ ap (map pos) reds_are }
 
--- what these lines are, and that the program can hold a timing of them, whatever its bands are
-pub record BaseOf (bytes : List ℕ) (x : Unbanded × List ℕ) : Type 0 where
-  pub parts : (band_out band_in : ℕ) → bytes ≡ ended_and (base_lines (x.0 band_out band_in)) x.1
-  pub held : (band_out band_in : ℕ) → IsSmall band_out → IsSmall band_in → IsHeld (x.0 band_out band_in)
-  pub bands : (band_out band_in : ℕ) → ((x.0 band_out band_in).band_out ≡ band_out) × ((x.0 band_out band_in).band_in ≡ band_in)
+-- a small tick from 0 on is held
+pub first_is_held : (n : ℕ) → IsSmall n → IsHeldFirst (pos n)
+first_is_held n small = record { most = small; least = refl }
 
--- numbers from 0 on make a plan that is held
-is_held : (grid unit : ℕ) (patterns reds run_out run_in : List ℕ) (first_out first_in band_out band_in : ℕ) → IsTiming grid unit patterns reds run_out
-    run_in first_out first_in band_out band_in → IsHeld (plan_of grid unit patterns reds run_out run_in first_out first_in band_out band_in)
-is_held grid unit patterns reds run_out run_in first_out first_in band_out band_in k =
-    let e = abs_pos reds in record {
-      ranges = subst (λ (ns : List ℕ). IsTiming grid unit patterns ns run_out run_in first_out first_in band_out band_in) (sym e) k;
-      reds = ap (map pos) (sym e);
-      first_out = refl;
-      first_in = refl;
-    }
+-- what the six lines are, and that the program can hold a base of them
+pub record BaseOf (bytes : List ℕ) (x : BaseRecord × List ℕ) : Type 0 where
+  pub parts : bytes ≡ ended_and (base_lines x.0) x.1
+  pub held : IsHeldBase x.0
 
-pub base_takes : (line : ℕ) (bytes : List ℕ) (x : Unbanded × List ℕ) → base_at line bytes ≡ Ok x → BaseOf bytes x
+pub base_takes : (line : ℕ) (bytes : List ℕ) (x : BaseRecord × List ℕ) → base_at line bytes ≡ Ok x → BaseOf bytes x
 unfolding base_at
 base_takes line bytes x e =
     let a = bind_ok (scale_at line bytes) (λ s. signals_at (line + 2) s.2 >>= λ g. both_ways_at run_out_key run_in_key (line + 4) (length g.0 - 1) g.2
-    >>= λ r. pair_at first_key (line + 6) r.2 >>= λ f. Ok (plan_of s.0 s.1 g.0 g.1 r.0 r.1 f.0 f.1, f.2)) x e in
+    >>= λ r. Ok (base_of s.0 s.1 g.0 g.1 r.0 r.1, r.2)) x e in
     let s = a.0 in
-    let c = bind_ok (signals_at (line + 2) s.2) (λ g. both_ways_at run_out_key run_in_key (line + 4) (length g.0 - 1) g.2 >>= λ r. pair_at first_key
-    (line + 6) r.2 >>= λ f. Ok (plan_of s.0 s.1 g.0 g.1 r.0 r.1 f.0 f.1, f.2)) x a.2 in
+    let c = bind_ok (signals_at (line + 2) s.2) (λ g. both_ways_at run_out_key run_in_key (line + 4) (length g.0 - 1) g.2
+    >>= λ r. Ok (base_of s.0 s.1 g.0 g.1 r.0 r.1, r.2)) x a.2 in
     let g = c.0 in
-    let d = bind_ok (both_ways_at run_out_key run_in_key (line + 4) (length g.0 - 1) g.2) (λ r. pair_at first_key (line + 6) r.2 >>= λ f. Ok (plan_of s.0 s.1 g.0 g.1 r.0 r.1 f.0 f.1, f.2)) x c.2 in
+    let d = bind_ok (both_ways_at run_out_key run_in_key (line + 4) (length g.0 - 1) g.2) (λ r. Ok (base_of s.0 s.1 g.0 g.1 r.0 r.1, r.2)) x c.2 in
     let r = d.0 in
-    let h = bind_ok (pair_at first_key (line + 6) r.2) (λ f. Ok (plan_of s.0 s.1 g.0 g.1 r.0 r.1 f.0 f.1, f.2)) x d.2 in
-    let f = h.0 in
     let scale = scale_takes line bytes s a.1 in
     let signals = signals_take (line + 2) s.2 g c.1 in
     let runs = ways_take run_out_key run_in_key (line + 4) (length g.0 - 1) g.2 r d.1 in
-    let first = pair_takes first_key (line + 6) r.2 f h.1 in
-    let third : g.2 ≡ spelled run_out_key r.0 ++ 10 ∷ (spelled run_in_key r.1 ++ 10 ∷ (spelled first_key (f.0 ∷ f.1 ∷ []) ++ 10 ∷ f.2)) = runs.parts
-    ∙ ap (λ (y : List ℕ). spelled run_out_key r.0 ++ 10 ∷ (spelled run_in_key r.1 ++ 10 ∷ y)) first.parts in
-    let second = signals.parts ∙ (λ i. spelled pattern_key g.0 ++ 10 ∷ (spelled red_key (sym (abs_pos g.1) i) ++ 10 ∷ third i)) in
-    let all = scale.parts ∙ ap (λ (y : List ℕ). spelled grid_key (s.0 ∷ []) ++ 10 ∷ (spelled unit_key (s.1 ∷ []) ++ 10 ∷ y)) second in
-    moved (BaseOf bytes) (plan_of s.0 s.1 g.0 g.1 r.0 r.1 f.0 f.1, f.2) x h.2 (record {
-      parts = λ band_out band_in. all;
-      held = λ band_out band_in out in'. is_held s.0 s.1 g.0 g.1 r.0 r.1 f.0 f.1 band_out band_in (fits line bytes s.2 g.2 r.2 s g r f a.1 c.1 d.1 h.1 band_out band_in out in');
-      bands = λ band_out band_in. (refl, refl);
+    let second = signals.parts ∙ (λ i. spelled pattern_key g.0 ++ 10 ∷ (spelled red_key (sym (abs_pos g.1) i) ++ 10 ∷ runs.parts i)) in
+    moved (BaseOf bytes) (base_of s.0 s.1 g.0 g.1 r.0 r.1, r.2) x d.2 (record {
+      parts = scale.parts ∙ ap (λ (y : List ℕ). spelled grid_key (s.0 ∷ []) ++ 10 ∷ (spelled unit_key (s.1 ∷ []) ++ 10 ∷ y)) second;
+      held = base_is_held (base_of s.0 s.1 g.0 g.1 r.0 r.1) g.1 (fits line bytes s.2 g.2 s g r a.1 c.1 d.1) refl;
     })
 
 -- ---- the eight lines
 
-pub plan_takes : (line : ℕ) (bytes : List ℕ) (x : TimingRecord × List ℕ) → plan_at line bytes ≡ Ok x → IsTextOf one_band bytes x
-unfolding plan_at
-plan_takes line bytes x e =
-    let a = bind_ok (base_at line bytes) (λ base. pair_at band_key (line + 7) base.1 >>= λ band. Ok (base.0 band.0 band.1, band.2)) x e in
-    let c = bind_ok (pair_at band_key (line + 7) a.0.1) (λ band. Ok (a.0.0 band.0 band.1, band.2)) x a.2 in
-    let base = base_takes line bytes a.0 a.1 in
-    let band = pair_takes band_key (line + 7) a.0.1 c.0 c.1 in
-    let made : TimingRecord = a.0.0 c.0.0 c.0.1 in
-    let own = base.bands c.0.0 c.0.1 in
-    moved (IsTextOf one_band bytes) (made, c.0.2) x c.2 (record {
-      parts = base.parts c.0.0 c.0.1 ∙ ap (ended_and (base_lines made)) (band.parts ∙ (λ i. spelled band_key (sym own.0 i ∷ sym own.1 i ∷ []) ++ 10 ∷ c.0.2));
-      held = base.held c.0.0 c.0.1 band.first band.second;
+pub timing_numbers_take : (line : ℕ) (bytes : List ℕ) (x : TimingRecord × List ℕ) → timing_at line bytes ≡ Ok x → IsTextOf one_band bytes x
+unfolding timing_at
+timing_numbers_take line bytes x e =
+    let a = bind_ok (base_at line bytes) (λ b. pair_at first_key (line + 6) b.1 >>= λ first. pair_at band_key (line + 7) first.2 >>= λ band. Ok
+    (banded (pos first.0) band.0 (pos first.1) band.1 b.0, band.2)) x e in
+    let b = a.0 in
+    let c = bind_ok (pair_at first_key (line + 6) b.1) (λ first. pair_at band_key (line + 7) first.2 >>= λ band. Ok
+    (banded (pos first.0) band.0 (pos first.1) band.1 b.0, band.2)) x a.2 in
+    let f = c.0 in
+    let d = bind_ok (pair_at band_key (line + 7) f.2) (λ band. Ok (banded (pos f.0) band.0 (pos f.1) band.1 b.0, band.2)) x c.2 in
+    let own = base_takes line bytes b a.1 in
+    let first = pair_takes first_key (line + 6) b.1 f c.1 in
+    let band = pair_takes band_key (line + 7) f.2 d.0 d.1 in
+    let later = first.parts ∙ ap (λ (y : List ℕ). firsts_line (pos f.0) (pos f.1) ++ 10 ∷ y) band.parts in
+    moved (IsTextOf one_band bytes) (banded (pos f.0) d.0.0 (pos f.1) d.0.1 b.0, d.0.2) x d.2 (record {
+      parts = own.parts ∙ ap (ended_and (base_lines b.0)) later;
+      held = record {
+        base = own.held;
+        first_out = first_is_held f.0 first.first;
+        first_in = first_is_held f.1 first.second;
+        band_out = band.first;
+        band_in = band.second;
+      };
     })
-
--- the numbers that the code read
-pub base_fits : (line : ℕ) (bytes rest : List ℕ) (grid unit : ℕ) (patterns reds run_out run_in : List ℕ) (first_out first_in band_out band_in : ℕ)
-    → base_at line bytes ≡ Ok (plan_of grid unit patterns reds run_out run_in first_out first_in, rest) → IsSmall band_out → IsSmall band_in
-    → IsTiming grid unit patterns reds run_out run_in first_out first_in band_out band_in
-base_fits line bytes rest grid unit patterns reds run_out run_in first_out first_in band_out band_in e out in' =
-    subst (λ (ns : List ℕ). IsTiming grid unit patterns ns run_out run_in first_out first_in band_out band_in) (abs_pos reds)
-    ((base_takes line bytes (plan_of grid unit patterns reds run_out run_in first_out first_in, rest) e).held band_out band_in out in').ranges
-
-pub plan_fits : (line : ℕ) (bytes rest more : List ℕ) (grid unit : ℕ) (patterns reds run_out run_in : List ℕ) (first_out first_in band_out band_in : ℕ)
-    → base_at line bytes ≡ Ok (plan_of grid unit patterns reds run_out run_in first_out first_in, rest) → pair_at band_key (line + 7) rest ≡ Ok (band_out, band_in, more)
-    → IsTiming grid unit patterns reds run_out run_in first_out first_in band_out band_in
-plan_fits line bytes rest more grid unit patterns reds run_out run_in first_out first_in band_out band_in e f =
-    let band = pair_takes band_key (line + 7) rest (band_out, band_in, more) f in
-    base_fits line bytes rest grid unit patterns reds run_out run_in first_out first_in band_out band_in e band.first band.second
 
 -- the whole text, and that the program can hold the timing
 pub timing_takes : (bytes : List ℕ) (t : TimingRecord) → timing_of bytes ≡ Ok t → (bytes ≡ timing_text t) × IsHeld t
 unfolding timing_of
 timing_takes bytes t e =
-    let a = bind_ok (fixed_at 1 head_line bytes) (λ rest. plan_at 2 rest >>= λ timing. fixed_at 10 end_line timing.1 >>= λ more. nothing_at 11 more >>= λ nothing. Ok timing.0) t e in
-    let b = bind_ok (plan_at 2 a.0) (λ timing. fixed_at 10 end_line timing.1 >>= λ more. nothing_at 11 more >>= λ nothing. Ok timing.0) t a.2 in
+    let a = bind_ok (fixed_at 1 head_line bytes) (λ rest. timing_at 2 rest >>= λ timing. fixed_at 10 end_line timing.1 >>= λ more. nothing_at 11 more >>= λ nothing. Ok timing.0) t e in
+    let b = bind_ok (timing_at 2 a.0) (λ timing. fixed_at 10 end_line timing.1 >>= λ more. nothing_at 11 more >>= λ nothing. Ok timing.0) t a.2 in
     let d = bind_ok (fixed_at 10 end_line b.0.1) (λ more. nothing_at 11 more >>= λ nothing. Ok b.0.0) t b.2 in
     let f = bind_ok (nothing_at 11 d.0) (λ nothing. Ok b.0.0) t d.2 in
     let last : b.0.1 ≡ end_line ++ 10 ∷ [] = fixed_takes 10 end_line b.0.1 d.0 d.1 ∙ ap (λ (r : List ℕ). end_line ++ 10 ∷ r) (nothing_takes 11 d.0 f.0 f.1) in
-    let plan = plan_takes 2 a.0 b.0 b.1 in (
+    let numbers = timing_numbers_take 2 a.0 b.0 b.1 in (
       fixed_takes 1 head_line bytes a.0 a.1
-          ∙ ap (λ (y : List ℕ). head_line ++ 10 ∷ y) (plan.parts ∙ ap (ended_and (plan_lines b.0.0)) last)
+          ∙ ap (λ (y : List ℕ). head_line ++ 10 ∷ y) (numbers.parts ∙ ap (ended_and (number_lines b.0.0)) last)
           ∙ ap timing_text (ok_is b.0.0 t f.2),
-      moved IsHeld b.0.0 t f.2 plan.held,
+      moved IsHeld b.0.0 t f.2 numbers.held,
     )
 
 -- ---- and again
@@ -327,48 +309,44 @@ pair_again : (key : List ℕ) (line first second : ℕ) (rest : List ℕ) → Is
 unfolding pair_at
 pair_again key line first second rest is f s = rw (numbers_again key (place_of line 2 0) (first ∷ second ∷ []) rest is (suits_two line first second f s)) refl
 
--- the numbers of a timing that speak of no band
-abbrev pub numbers_of : TimingRecord → Unbanded
-numbers_of t = plan_of t.grid t.unit t.patterns (map unsigned_abs t.reds) t.run_out t.run_in (unsigned_abs t.first_out) (unsigned_abs t.first_in)
+-- its numbers make a held base
+held_base : (b : BaseRecord) → IsHeldBase b → base_of b.grid b.unit b.patterns (map unsigned_abs b.reds) b.run_out b.run_in ≡ b
+held_base b held = rw (← held.reds) refl
 
--- with its bands they are the timing
-pub held_is : (t : TimingRecord) → IsHeld t → numbers_of t t.band_out t.band_in ≡ t
-held_is t held = rw (← held.reds, ← held.first_out, ← held.first_in) refl
-
--- the bands aren't read
-pub base_again : (line : ℕ) (t : TimingRecord) (rest : List ℕ) → IsHeld t → base_at line (ended_and (base_lines t) rest) ≡ Ok (numbers_of t, rest)
+pub base_again : (line : ℕ) (b : BaseRecord) (rest : List ℕ) → IsHeldBase b → base_at line (ended_and (base_lines b) rest) ≡ Ok (b, rest)
 unfolding base_at
-base_again line t rest held =
+base_again line b rest held =
     let k = held.ranges in
-    let reds = map unsigned_abs t.reds in
-    let links = length t.patterns - 1 in
-    let first_out = unsigned_abs t.first_out in
-    let first_in = unsigned_abs t.first_in in
-    let rest3 = spelled first_key (first_out ∷ first_in ∷ []) ++ 10 ∷ rest in
-    let rest2 = spelled run_out_key t.run_out ++ 10 ∷ (spelled run_in_key t.run_in ++ 10 ∷ rest3) in
-    let rest1 = spelled pattern_key t.patterns ++ 10 ∷ (spelled red_key reds ++ 10 ∷ rest2) in
-    let p : Suits (pattern_place (line + 2)) t.patterns =
-    record { fewest = k.few; most = k.many; each = pattern_within (line + 2) t.patterns (recursion_from_All (λ p. (1 ≤ p) × (p ≤ 4)) t.patterns k.patterns_each) } in
-    let first = scale_again line t.grid t.unit rest1 k.grid_least k.grid_most k.unit_least k.unit_most in
-    let second = signals_again (line + 2) t.patterns reds rest2 p (suits_small (line + 2 + 1) reds (length t.patterns) k.reds_count k.reds_each) in
-    let third = ways_again run_out_key run_in_key (line + 4) links t.run_out t.run_in rest3 (record { spaces = refl; feeds = refl })
-    (record { spaces = refl; feeds = refl }) (suits_small (line + 4) t.run_out links (omega arith) k.run_out_each) (suits_small (line + 4 + 1) t.run_in links (omega arith) k.run_in_each) in
-    let fourth = pair_again first_key (line + 6) first_out first_in rest (record { spaces = refl; feeds = refl }) k.first_out_most k.first_in_most in
-    rw (first, second, third, fourth) refl
+    let reds = map unsigned_abs b.reds in
+    let links = length b.patterns - 1 in
+    let rest2 = spelled run_out_key b.run_out ++ 10 ∷ (spelled run_in_key b.run_in ++ 10 ∷ rest) in
+    let rest1 = spelled pattern_key b.patterns ++ 10 ∷ (spelled red_key reds ++ 10 ∷ rest2) in
+    let p : Suits (pattern_place (line + 2)) b.patterns =
+    record { fewest = k.few; most = k.many; each = pattern_within (line + 2) b.patterns (recursion_from_All (λ p. (1 ≤ p) × (p ≤ 4)) b.patterns k.patterns_each) } in
+    let first = scale_again line b.grid b.unit rest1 k.grid_least k.grid_most k.unit_least k.unit_most in
+    let second = signals_again (line + 2) b.patterns reds rest2 p (suits_small (line + 2 + 1) reds (length b.patterns) k.reds_count k.reds_each) in
+    let third = ways_again run_out_key run_in_key (line + 4) links b.run_out b.run_in rest (record { spaces = refl; feeds = refl })
+    (record { spaces = refl; feeds = refl }) (suits_small (line + 4) b.run_out links (omega arith) k.run_out_each) (suits_small (line + 4 + 1) b.run_in links (omega arith) k.run_in_each) in
+    rw (first, second, third) (ap (λ (c : BaseRecord). Ok (c, rest)) (held_base b held))
 
-pub plan_again : (line : ℕ) (t : TimingRecord) (rest : List ℕ) → IsHeld t → plan_at line (ended_and (plan_lines t) rest) ≡ Ok (t, rest)
-unfolding plan_at
-plan_again line t rest held =
-    let k = held.ranges in
-    let first = base_again line t (spelled band_key (t.band_out ∷ t.band_in ∷ []) ++ 10 ∷ rest) held in
-    let second = pair_again band_key (line + 7) t.band_out t.band_in rest (record { spaces = refl; feeds = refl }) k.band_out_most k.band_in_most in
-    rw (first, second) (ap (λ (p : TimingRecord). Ok (p, rest)) (held_is t held))
+pub firsts_again : (line : ℕ) (first_out first_in : ℤ) (rest : List ℕ) → IsHeldFirst first_out → IsHeldFirst first_in
+    → pair_at first_key line (firsts_line first_out first_in ++ 10 ∷ rest) ≡ Ok (unsigned_abs first_out, unsigned_abs first_in, rest)
+firsts_again line first_out first_in rest out in' = pair_again first_key line (unsigned_abs first_out) (unsigned_abs first_in) rest (record { spaces = refl; feeds = refl }) out.most in'.most
+
+pub timing_numbers_again : (line : ℕ) (t : TimingRecord) (rest : List ℕ) → IsHeld t → timing_at line (ended_and (number_lines t) rest) ≡ Ok (t, rest)
+unfolding timing_at
+timing_numbers_again line t rest held =
+    let rest2 = spelled band_key (t.band_out ∷ t.band_in ∷ []) ++ 10 ∷ rest in
+    let first = base_again line (base t) (firsts_line t.first_out t.first_in ++ 10 ∷ rest2) held.base in
+    let second = firsts_again (line + 6) t.first_out t.first_in rest2 held.first_out held.first_in in
+    let third = pair_again band_key (line + 7) t.band_out t.band_in rest (record { spaces = refl; feeds = refl }) held.band_out held.band_in in
+    rw (first, second, third) (λ i. Ok (banded (sym held.first_out.least i) t.band_out (sym held.first_in.least i) t.band_in (base t), rest))
 
 pub timing_again : (t : TimingRecord) → IsHeld t → timing_of (timing_text t) ≡ Ok t
 unfolding timing_of nothing_at
 timing_again t held =
-    let first = fixed_again 1 head_line (ended_and (plan_lines t) (end_line ++ 10 ∷ [])) refl in
-    let second = plan_again 2 t (end_line ++ 10 ∷ []) held in
+    let first = fixed_again 1 head_line (ended_and (number_lines t) (end_line ++ 10 ∷ [])) refl in
+    let second = timing_numbers_again 2 t (end_line ++ 10 ∷ []) held in
     let third = fixed_again 10 end_line [] refl in
     rw (first, second, third) refl
 

@@ -7,7 +7,7 @@ use Rattle.named_row.specs.declared.names.RowId.{RowId}
 use Rattle.certificate_model.specs.Words.{line_of}
 use Rattle.plan_text.specs.Lines.{words_at}
 use Rattle.certificate_model.specs.Families.{Table, family_name_in, family_in, is_lone_in, IsNamedIn, row_words_in}
-use Rattle.plan_text.specs.CertificateReading.{range_of, index_of, lone_row, indexed_row, in_family, row_of, last_after, cut_last, last_after, cut_last}
+use Rattle.plan_text.specs.CertificateReading.{range_of, index_of, lone_row, indexed_row, in_family, row_of, last_after, cut_last}
 use Rattle.plan_text.proofs.Fields.{bind_ok, moved, number_takes, number_again}
 use Rattle.plan_text.proofs.ExactWords.{decimal_word}
 use Rattle.plan_text.proofs.FamilyNames.{Tells, family_takes}

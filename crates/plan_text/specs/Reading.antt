@@ -1,11 +1,11 @@
 -- Reading the text of a timing from its first line on, and the lines of its numbers wherever they begin.
-use Rattle.std.specs.Prelude.{ℕ, ◌+◌, ◌-◌, ◌^◌, List, length, Result, Ok, slice_index}
-use Rattle.progression.specs.TimingRecord.{TimingRecord}
+use Rattle.std.specs.Prelude.{ℕ, ◌+◌, ◌-◌, ◌^◌, List, length, pos, Result, Ok, slice_index}
+use Rattle.progression.specs.BaseRecord.{BaseRecord}
+use Rattle.progression.specs.TimingRecord.{TimingRecord, banded}
 use Rattle.artery_model.specs.Bounds.{least_signals, most_signals}
-use Rattle.time_space.specs.Timing.{plan_of}
+use Rattle.time_space.specs.Timing.{base_of}
 use Rattle.plan_text.specs.declared.fault.BadText.{BadText}
 use Rattle.plan_text.specs.declared.lines.NumberLine.{NumberLine}
-use Rattle.plan_text.specs.declared.reading.Base.{Base}
 use Rattle.plan_text.specs.Spelling.{head_line, grid_key, unit_key, pattern_key, red_key, run_out_key, run_in_key, first_key, band_key, end_line}
 use Rattle.plan_text.specs.Lines.{◌>>=◌, fixed_at, nothing_at, numbers_at}
 
@@ -44,34 +44,26 @@ pair_at key line bytes = do
   pair ← numbers_at key (place_of line 2 0) bytes
   Ok (slice_index pair.0 0, slice_index pair.0 1, pair.1)
 
--- a timing that waits for its bands
-abbrev pub Unbanded : Type 0
-Unbanded = ℕ → ℕ → TimingRecord
-
--- that of these numbers
-abbrev pub base_of : Base → Unbanded
-base_of b = plan_of b.grid b.unit b.patterns.items b.reds.items b.runs.outbound.items b.runs.inbound.items b.first.outbound b.first.inbound
-
--- the seven lines of a timing's numbers that speak of no band, the first of which has this number
-unfoldable pub base_at : ℕ → List ℕ → Result (Unbanded × List ℕ) BadText
+-- the six lines of a base, the first of which has this number
+unfoldable pub base_at : ℕ → List ℕ → Result (BaseRecord × List ℕ) BadText
 base_at line bytes = do
   scale ← scale_at line bytes
   signals ← signals_at (line + 2) scale.2
   runs ← both_ways_at run_out_key run_in_key (line + 4) (length signals.0 - 1) signals.2
-  first ← pair_at first_key (line + 6) runs.2
-  Ok (plan_of scale.0 scale.1 signals.0 signals.1 runs.0 runs.1 first.0 first.1, first.2)
+  Ok (base_of scale.0 scale.1 signals.0 signals.1 runs.0 runs.1, runs.2)
 
 -- the eight lines of a timing's numbers, the first of which has this number
-unfoldable pub plan_at : ℕ → List ℕ → Result (TimingRecord × List ℕ) BadText
-plan_at line bytes = do
+unfoldable pub timing_at : ℕ → List ℕ → Result (TimingRecord × List ℕ) BadText
+timing_at line bytes = do
   base ← base_at line bytes
-  band ← pair_at band_key (line + 7) base.1
-  Ok (base.0 band.0 band.1, band.2)
+  first ← pair_at first_key (line + 6) base.1
+  band ← pair_at band_key (line + 7) first.2
+  Ok (banded (pos first.0) band.0 (pos first.1) band.1 base.0, band.2)
 
 unfoldable pub timing_of : List ℕ → Result TimingRecord BadText
 timing_of bytes = do
   rest ← fixed_at 1 head_line bytes
-  timing ← plan_at 2 rest
+  timing ← timing_at 2 rest
   more ← fixed_at 10 end_line timing.1
   nothing ← nothing_at 11 more
   Ok timing.0

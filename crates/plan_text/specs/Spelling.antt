@@ -1,8 +1,9 @@
 -- The one text of a timing: ten lines, each ended by a line feed, of words that one space parts.
-use Rattle.std.specs.Prelude.{◌≡◌, ℕ, List, [], ◌∷◌, ◌++◌, map, pos, unsigned_abs}
+use Rattle.std.specs.Prelude.{◌≡◌, ℕ, ◌<◌, ◌^◌, List, [], ◌∷◌, ◌++◌, map, ℤ, pos, unsigned_abs}
 use Rattle.std.specs.Fmt.{decimal}
-use Rattle.progression.specs.TimingRecord.{TimingRecord}
-use Rattle.time_space.specs.Timing.{IsTiming}
+use Rattle.progression.specs.BaseRecord.{BaseRecord}
+use Rattle.progression.specs.TimingRecord.{TimingRecord, base}
+use Rattle.time_space.specs.Timing.{AreOfBase}
 
 -- a word, and each of the numbers after one space
 abbrev pub spelled : List ℕ → List ℕ → List ℕ
@@ -45,32 +46,46 @@ band_key = 98 ∷ 97 ∷ 110 ∷ 100 ∷ []
 abbrev pub end_line : List ℕ  -- end
 end_line = 101 ∷ 110 ∷ 100 ∷ []
 
--- the seven lines of its numbers that speak of no band
-abbrev pub base_lines : TimingRecord → List (List ℕ)
-base_lines t =
-    spelled grid_key (t.grid ∷ [])
-    ∷ spelled unit_key (t.unit ∷ [])
-    ∷ spelled pattern_key t.patterns
-    ∷ spelled red_key (map unsigned_abs t.reds)
-    ∷ spelled run_out_key t.run_out
-    ∷ spelled run_in_key t.run_in
-    ∷ spelled first_key (unsigned_abs t.first_out ∷ unsigned_abs t.first_in ∷ [])
+-- the six lines of a base
+abbrev pub base_lines : BaseRecord → List (List ℕ)
+base_lines b =
+    spelled grid_key (b.grid ∷ [])
+    ∷ spelled unit_key (b.unit ∷ [])
+    ∷ spelled pattern_key b.patterns
+    ∷ spelled red_key (map unsigned_abs b.reds)
+    ∷ spelled run_out_key b.run_out
+    ∷ spelled run_in_key b.run_in
     ∷ []
 
+-- the line that says where the first line of each direction crosses
+abbrev pub firsts_line : ℤ → ℤ → List ℕ
+firsts_line first_out first_in = spelled first_key (unsigned_abs first_out ∷ unsigned_abs first_in ∷ [])
+
 -- the eight lines of its numbers
-abbrev pub plan_lines : TimingRecord → List (List ℕ)
-plan_lines t = base_lines t ++ spelled band_key (t.band_out ∷ t.band_in ∷ []) ∷ []
+abbrev pub number_lines : TimingRecord → List (List ℕ)
+number_lines t = base_lines (base t) ++ firsts_line t.first_out t.first_in ∷ spelled band_key (t.band_out ∷ t.band_in ∷ []) ∷ []
 
 -- the ten lines
 abbrev pub timing_lines : TimingRecord → List (List ℕ)
-timing_lines t = head_line ∷ plan_lines t ++ end_line ∷ []
+timing_lines t = head_line ∷ number_lines t ++ end_line ∷ []
 
 abbrev pub timing_text : TimingRecord → List ℕ
 timing_text t = ended (timing_lines t)
 
--- a plan that a timing of the program can be: its numbers are in their ranges, and its ticks from 0 on
+-- a base that the program can hold: its numbers are in their ranges, and its reds from 0 on
+pub record IsHeldBase (b : BaseRecord) : Type 0 where
+  pub ranges : AreOfBase b.grid b.unit b.patterns (map unsigned_abs b.reds) b.run_out b.run_in
+  pub reds : b.reds ≡ map pos (map unsigned_abs b.reds)
+
+-- a tick that the program can hold as the first line's
+pub record IsHeldFirst (first : ℤ) : Type 0 where
+  pub most : unsigned_abs first < 2 ^ 80
+  pub least : first ≡ pos (unsigned_abs first)
+
+-- a timing that the program can hold
 pub record IsHeld (t : TimingRecord) : Type 0 where
-  pub ranges : IsTiming t.grid t.unit t.patterns (map unsigned_abs t.reds) t.run_out t.run_in (unsigned_abs t.first_out) (unsigned_abs t.first_in) t.band_out t.band_in
-  pub reds : t.reds ≡ map pos (map unsigned_abs t.reds)
-  pub first_out : t.first_out ≡ pos (unsigned_abs t.first_out)
-  pub first_in : t.first_in ≡ pos (unsigned_abs t.first_in)
+  pub base : IsHeldBase (base t)
+  pub first_out : IsHeldFirst t.first_out
+  pub first_in : IsHeldFirst t.first_in
+  pub band_out : t.band_out < 2 ^ 80
+  pub band_in : t.band_in < 2 ^ 80

@@ -2,8 +2,8 @@
 use Rattle.std.specs.Prelude.{ℕ, List, Result}
 use Rattle.progression.specs.TimingRecord.{TimingRecord}
 use Rattle.plan_text.specs.declared.fault.BadText.{BadText}
-use Rattle.plan_text.specs.Spelling.{plan_lines, IsHeld}
-use Rattle.plan_text.specs.Reading.{plan_at}
+use Rattle.plan_text.specs.Spelling.{number_lines, IsHeld}
+use Rattle.plan_text.specs.Reading.{timing_at}
 
 -- the text of the timings of a kind
 pub record TimingText (T : Type 0) : Type 1 where
@@ -14,4 +14,4 @@ pub record TimingText (T : Type 0) : Type 1 where
 
 -- timings with one band a direction
 abbrev pub one_band : TimingText TimingRecord
-one_band = record { lines = plan_lines; height = 8; read = plan_at; IsHeld = IsHeld }
+one_band = record { lines = number_lines; height = 8; read = timing_at; IsHeld = IsHeld }

@@ -8,7 +8,7 @@ ghost use Rattle.plan_text.specs.CertificateReading.{or_number, fraction_of, ove
 use crate::fault::{TextEnd, TextFault};
 use crate::form::LeafForm;
 use crate::lines::bad;
-use crate::number::number;
+use crate::numeral::number;
 use narrow_fraction::Frac;
 use quantity_text::parse_exact;
 

@@ -7,7 +7,7 @@ ghost use Rattle.certificate_model.specs.Words.{words};
 
 use crate::cut::{cut, words};
 use crate::fault::{BadText, TextEnd, TextFault};
-use crate::number::number;
+use crate::numeral::number;
 use std::alloc::Global;
 
 /// What a line of numbers has to have.

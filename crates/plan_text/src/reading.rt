@@ -3,30 +3,19 @@
 ghost use Rattle.std.specs.Prelude.{◌≡◌, ◌+◌, ◌-◌, ◌<◌, ◌≤◌, ◌^◌, All, length, IfOk, Ok};
 ghost use Rattle.progression.specs.TimingRecord.{TimingRecord};
 ghost use Rattle.plan_text.specs.{Lines.{Gives, numbers_at}, Spelling.{timing_text, IsHeld}};
-ghost use Rattle.plan_text.specs.Reading.{place_of, pattern_place, scale_at, signals_at, both_ways_at, pair_at, base_of, base_at, plan_at, timing_of};
+ghost use Rattle.plan_text.specs.Reading.{place_of, pattern_place, scale_at, signals_at, both_ways_at, pair_at, base_at, timing_at, timing_of};
 
 use crate::fault::TextEnd;
 use crate::lines::{NumberLine, fixed_at, nothing_at, numbers_at};
 use artery_model::bounds::{LEAST_SIGNALS, MOST_SIGNALS};
 use std::alloc::{AllocError, Global};
-use time_space::{LIMIT, Timing};
+use time_space::{Base, LIMIT, Timing};
 
 /// What is said of each direction.
 #[derive(Drop)]
 pub struct BothWays<T> {
     pub outbound: T,
     pub inbound: T,
-}
-
-/// The numbers of a timing that speak of no band, as `Timing::new` wants them.
-#[derive(Drop)]
-pub struct Base {
-    pub grid: u128,
-    pub unit: u128,
-    pub patterns: Vec<u32>,
-    pub reds: Vec<u128>,
-    pub runs: BothWays<Vec<u128>>,
-    pub first: BothWays<u128>,
 }
 
 /// The place of a line with so many numbers below `2^80`, of which none is less than `least`.
@@ -117,15 +106,17 @@ pub fn both_ways_at<'a>(
     Ok((BothWays { outbound, inbound }, rest))
 }
 
-/// The two numbers of a line, and what follows it.
+/// The two numbers of a line, outbound and inbound, and what follows it.
 #[tactic(auto, unfolding(crate::specs::Reading::pair_at))]
-fn pair_at<'a>(
+pub fn pair_at<'a>(
     alloc: Global,
     key: &[u8],
     line: u64,
     bytes: &'a [u8],
 ) -> Result<(BothWays<u128>, &'a [u8]), TextEnd>
-    ensures { Gives (λ x. (x.0.outbound, x.0.inbound, x.1.now)) result (pair_at key.now line bytes.now) }
+    ensures exact { Gives (λ x. (x.0.outbound, x.0.inbound, x.1.now)) result (pair_at key.now line bytes.now) }
+    ensures outbound { IfOk result (λ x. x.0.outbound < 2 ^ 80) }
+    ensures inbound { IfOk result (λ x. x.0.inbound < 2 ^ 80) }
 {
     let (pair, rest) = count_at(alloc, key, line, 2, 0, bytes)?;
     let (outbound, inbound) = (pair[0], pair[1]);
@@ -143,52 +134,34 @@ fn patterns_of(alloc: Global, numbers: &[u128]) -> Result<Vec<u32>, AllocError>
     Ok(patterns)
 }
 
-/// The numbers of a timing's seven lines that speak of no band, the first of which has this number, and what follows them.
+/// The base of the six lines from the one with this number on, and what follows them.
 #[tactic(auto, unfolding(crate::specs::Reading::base_at))]
 pub fn base_at(alloc: Global, line: u64, bytes: &[u8]) -> Result<(Base, &[u8]), TextEnd>
-    requires { line + 8 < 2 ^ 64 }
-    ensures { Gives (λ x. (base_of x.0, x.1.now)) result (base_at line bytes.now) }
+    requires { line + 5 < 2 ^ 64 }
+    ensures { Gives (λ x. (x.0, x.1.now)) result (base_at line bytes.now) }
 {
     let (grid, unit, rest) = scale_at(alloc, line, bytes)?;
     let (patterns, reds, rest) = signals_at(alloc, line + 2, rest)?;
     let links = patterns.len() - 1;
     let (runs, rest) = both_ways_at(alloc, b"run_out", b"run_in", line + 4, links, rest)?;
-    let (first, rest) = pair_at(alloc, b"first", line + 6, rest)?;
     let patterns = patterns_of(alloc, patterns.as_slice())?;
-    let base = Base {
-        grid,
-        unit,
-        patterns,
-        reds,
-        runs,
-        first,
-    };
-    Ok((base, rest))
+    match Base::new(grid, unit, patterns, reds, runs.outbound, runs.inbound) {
+        Some(base) => Ok((base, rest)),
+        None => unreachable!(),
+    }
 }
 
 /// The timing of the eight lines from the one with this number on, and what follows them.
-#[tactic(auto, unfolding(crate::specs::Reading::plan_at))]
-pub(crate) fn plan_at(alloc: Global, line: u64, bytes: &[u8]) -> Result<(Timing, &[u8]), TextEnd>
-    requires { line + 8 < 2 ^ 64 }
-    ensures { Gives (λ x. (x.0, x.1.now)) result (plan_at line bytes.now) }
+#[tactic(auto, unfolding(crate::specs::Reading::timing_at))]
+pub(crate) fn timing_at(alloc: Global, line: u64, bytes: &[u8]) -> Result<(Timing, &[u8]), TextEnd>
+    requires { line + 7 < 2 ^ 64 }
+    ensures { Gives (λ x. (x.0, x.1.now)) result (timing_at line bytes.now) }
 {
     let (base, rest) = base_at(alloc, line, bytes)?;
+    let (first, rest) = pair_at(alloc, b"first", line + 6, rest)?;
     let (band, rest) = pair_at(alloc, b"band", line + 7, rest)?;
-    match Timing::new(
-        base.grid,
-        base.unit,
-        base.patterns,
-        base.reds,
-        base.runs.outbound,
-        base.runs.inbound,
-        base.first.outbound,
-        base.first.inbound,
-        band.outbound,
-        band.inbound,
-    ) {
-        Some(timing) => Ok((timing, rest)),
-        None => unreachable!(),
-    }
+    let timing = base.banded(first.outbound, band.outbound, first.inbound, band.inbound);
+    Ok((timing, rest))
 }
 
 #[tactic(auto, unfolding(crate::specs::Reading::timing_of))]
@@ -196,7 +169,7 @@ fn timing_of(alloc: Global, bytes: &[u8]) -> Result<Timing, TextEnd>
     ensures { Gives (λ t. t) result (timing_of bytes.now) }
 {
     let rest = fixed_at(1, b"maxband-timing 1", bytes)?;
-    let (timing, rest) = plan_at(alloc, 2, rest)?;
+    let (timing, rest) = timing_at(alloc, 2, rest)?;
     let rest = fixed_at(10, b"end", rest)?;
     nothing_at(11, rest)?;
     Ok(timing)
@@ -209,7 +182,7 @@ pub fn read_timing(alloc: Global, bytes: &[u8]) -> Result<Timing, TextEnd>
     // What is read is spelled so.
     ensures found { IfOk result (λ t. bytes.now ≡ timing_text t) }
     // What spells a timing is read, unless memory runs out.
-    ensures only { (plan : TimingRecord) → IsHeld plan → bytes.now ≡ timing_text plan → Gives (λ t. t) result (Ok plan) }
+    ensures only { (t : TimingRecord) → IsHeld t → bytes.now ≡ timing_text t → Gives (λ t. t) result (Ok t) }
     // Which fault it is, and at which line.
     ensures exact { Gives (λ t. t) result (timing_of bytes.now) }
 {

@@ -7,10 +7,10 @@ ghost use Rattle.plan_text.specs.{Namings.{Named, tree_lines}, CertificateReadin
 
 use crate::fault::TextEnd;
 use crate::naming::Naming;
-use crate::reading::plan_at;
+use crate::reading::timing_at;
 use crate::tree::tree_at;
 use crate::tree_writing::push_tree;
-use crate::writing::push_plan;
+use crate::writing::push_timing;
 use certificate_model::{CertNode, FAMILIES};
 use narrow_fraction::Memory;
 use std::alloc::Global;
@@ -68,11 +68,11 @@ impl TimingKind for OneBand {
     }
 
     fn timing_at(alloc: Global, line: u64, bytes: &[u8]) -> Result<(Timing, &[u8]), TextEnd> {
-        plan_at(alloc, line, bytes)
+        timing_at(alloc, line, bytes)
     }
 
     fn push_timing(out: &mut Vec<u8>, timing: &Timing) -> Result<(), Memory> {
-        push_plan(out, timing)
+        push_timing(out, timing)
     }
 
     #[tactic(auto, unfolding(certificate_model::specs::Families::ordinary))]

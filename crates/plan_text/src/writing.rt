@@ -2,13 +2,13 @@
 
 ghost use Rattle.std.specs.{Prelude.{◌≡◌, ◌++◌, ◌∷◌, [], ◌<◌, ◌^◌, pos, Ok, IfOk, OnOk}, Fmt.{decimal}};
 ghost use Rattle.progression.specs.TimingRecord.{first};
-ghost use Rattle.plan_text.specs.{Spelling.{spelled, ended, base_lines, plan_lines, timing_text, IsHeld}, Reading.{timing_of}};
+ghost use Rattle.plan_text.specs.{Spelling.{spelled, ended, base_lines, firsts_line, number_lines, timing_text, IsHeldBase, IsHeld}, Reading.{timing_of}};
 
 use narrow_fraction::Memory;
 use progression::Dir;
 use quantity_text::{push_bytes, push_number, push_text};
 use std::alloc::{AllocError, Global};
-use time_space::Timing;
+use time_space::{Base, Timing};
 
 /// Writes a number after a space.
 pub(crate) fn push_spaced(out: &mut Vec<u8>, number: u128) -> Result<(), Memory>
@@ -49,6 +49,30 @@ fn widened(alloc: Global, patterns: &[u32]) -> Result<Vec<u128>, AllocError>
     Ok(wide)
 }
 
+/// Writes the six lines of a base at the end.
+pub fn push_base(out: &mut Vec<u8>, base: &Base) -> Result<(), Memory>
+    ensures text { OnOk result (out.new.items ≡ out.old.items ++ ended (base_lines base.now)) }
+    ensures held { OnOk result (IsHeldBase base.now) }
+{
+    let alloc = *out.allocator();
+    let patterns = widened(alloc, base.patterns())?;
+    push_numbers(out, b"grid", &[base.grid()])?;
+    push_numbers(out, b"unit", &[base.unit()])?;
+    push_numbers(out, b"pattern", patterns.as_slice())?;
+    push_numbers(out, b"red", base.reds())?;
+    push_numbers(out, b"run_out", base.run_out())?;
+    push_numbers(out, b"run_in", base.run_in())?;
+    Ok(())
+}
+
+/// Writes the line that says where the first lines cross at the end.
+pub fn push_firsts(out: &mut Vec<u8>, first_out: u128, first_in: u128) -> Result<(), Memory>
+    ensures { OnOk result (out.new.items ≡ out.old.items ++ ended (firsts_line (pos first_out) (pos first_in) ∷ [])) }
+{
+    push_numbers(out, b"first", &[first_out, first_in])?;
+    Ok(())
+}
+
 /// Where the first line of a direction crosses, in ticks.
 fn first_of(timing: &Timing, dir: Dir) -> u128
     ensures value { first timing.now dir ≡ pos result }
@@ -57,38 +81,15 @@ fn first_of(timing: &Timing, dir: Dir) -> u128
     timing.first(dir).unsigned_abs()
 }
 
-/// Writes the seven lines of a timing's numbers that speak of no band at the end.
-pub fn push_base(out: &mut Vec<u8>, timing: &Timing) -> Result<(), Memory>
-    ensures text { OnOk result (out.new.items ≡ out.old.items ++ ended (base_lines timing.now)) }
-    ensures held { OnOk result (IsHeld timing.now) }
-{
-    let alloc = *out.allocator();
-    // Its bands are below the limit too.
-    let _bands = [timing.band(Dir::Outbound), timing.band(Dir::Inbound)];
-    let patterns = widened(alloc, timing.patterns())?;
-    push_numbers(out, b"grid", &[timing.grid()])?;
-    push_numbers(out, b"unit", &[timing.unit()])?;
-    push_numbers(out, b"pattern", patterns.as_slice())?;
-    push_numbers(out, b"red", timing.reds())?;
-    push_numbers(out, b"run_out", timing.run_out())?;
-    push_numbers(out, b"run_in", timing.run_in())?;
-    push_numbers(
-        out,
-        b"first",
-        &[
-            first_of(timing, Dir::Outbound),
-            first_of(timing, Dir::Inbound),
-        ],
-    )?;
-    Ok(())
-}
-
 /// Writes the eight lines of a timing's numbers at the end.
-pub(crate) fn push_plan(out: &mut Vec<u8>, timing: &Timing) -> Result<(), Memory>
-    ensures text { OnOk result (out.new.items ≡ out.old.items ++ ended (plan_lines timing.now)) }
+pub(crate) fn push_timing(out: &mut Vec<u8>, timing: &Timing) -> Result<(), Memory>
+    ensures text { OnOk result (out.new.items ≡ out.old.items ++ ended (number_lines timing.now)) }
     ensures held { OnOk result (IsHeld timing.now) }
 {
-    push_base(out, timing)?;
+    push_base(out, timing.base())?;
+    let first_out = first_of(timing, Dir::Outbound);
+    let first_in = first_of(timing, Dir::Inbound);
+    push_firsts(out, first_out, first_in)?;
     push_numbers(
         out,
         b"band",
@@ -104,7 +105,7 @@ pub fn write_timing(alloc: Global, timing: &Timing) -> Result<Vec<u8>, Memory>
 {
     let mut out = Vec::new(alloc);
     push_numbers(&mut out, b"maxband-timing 1", &[])?;
-    push_plan(&mut out, timing)?;
+    push_timing(&mut out, timing)?;
     push_numbers(&mut out, b"end", &[])?;
     Ok(out)
 }

@@ -18,17 +18,17 @@ module _ {T W : Type 0} where
   only_cuts : (o : Outcome T W) (place : At) → ending_by_outcome o ≡ Cuts place → o ≡ Splits place
   only_cuts (Refused wide) place e = cc
   only_cuts (Splits other) place e = let f : other ≡ place = cc in ap Splits f
-  only_cuts (Gives plan) place e = cc
+  only_cuts (Gives timing) place e = cc
 
   outcome_not_empty : (o : Outcome T W) → ending_by_outcome o ≡ Empty → ⊥
   outcome_not_empty (Refused wide) e = cc
   outcome_not_empty (Splits place) e = cc
-  outcome_not_empty (Gives plan) e = cc
+  outcome_not_empty (Gives timing) e = cc
 
   outcome_ends : (o : Outcome T W) → ending_by_outcome o ≡ NoEnd → ⊥
   outcome_ends (Refused wide) e = cc
   outcome_ends (Splits place) e = cc
-  outcome_ends (Gives plan) e = cc
+  outcome_ends (Gives timing) e = cc
 
 module _ {T W : Type 0} (p : Program T W) (line : BoxLine) where
   -- ---- from the last tableau and the vertex

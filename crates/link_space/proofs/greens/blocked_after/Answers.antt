@@ -19,4 +19,4 @@ returns-clause-found c =
     let from = c.ranges.from in let near = c.red_start-start.ensures.near in
     let start : FitsSigned w128 c.red_start-start.result = fits_signed_from_abs w128 c.red_start-start.result (omega (arith, near)) in
     let found = simp to_z-of_z at c.first_red.ensures in
-    rw (c.cycle.ensures.value, c.red_start-start.ensures.value, c.red_ticks-red.ensures.value, c.half.ensures.value, c.requires.here, c.lines-lines.ensures) at found
+    rw (c.cycle.ensures.value, c.red_start-start.ensures.value, c.red_ticks-red.ensures.value, c.half.ensures.value, c.requires.here, c.base-base.ensures) at found

@@ -23,7 +23,7 @@ pub returns : goal.returns
 returns c =
     let h = c.edge-from.ensures.near in let k = c.in_ok-after.ensures.small in
     record {
-      has = (c.requires.first, c.requires.last);
+      has = (c.requires.link.0, c.requires.link.1);
       end = c.requires.end;
       after = c.in_ok-after.after;
       tick_is =

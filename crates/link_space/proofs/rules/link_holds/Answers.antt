@@ -3,7 +3,7 @@ use Rattle.link_space.proofs.rules.link_holds.Goals as goal
 
 pub returns-clause-good : goal.returns-clause-good
 returns-clause-good c = record {
-  plan = c.check_base.ensures.plan;
+  formed = c.check_base.ensures.formed;
   base = c.in_ok-check_base.ensures.kept;
   ratio = c.in_ok-check_ratios.ensures.kept;
   here = green_here c.args.artery.now c.args.timing.now c.in_ok-check_bands.ensures.kept c.in_ok-check_bands-2.ensures.kept;

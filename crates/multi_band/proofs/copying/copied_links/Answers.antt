@@ -1,9 +1,16 @@
-use Rattle.std.proofs.Common.{arith}
-use Rattle.std.proofs.lemmas.Grind.{common_steps}
+use Rattle.std.proofs.Common.{◌∙◌}
+use Rattle.link_theory.specs.LinkRecord.{link_base}
+use Rattle.multi_band.proofs.LinkTimings.{halves_copied}
 use Rattle.multi_band.proofs.copying.copied_links.Goals as goal
 
-pub overflow_cast-first : goal.overflow_cast-first
-overflow_cast-first c = grind (arith, common_steps)
+pub around-requires-clause-half_out : goal.around-requires-clause-half_out
+around-requires-clause-half_out c =
+    let h = c.half_out in
+    halves_copied (link_base c.args.timing.now) c.in_ok-base.base h.result.now c.in_ok-half_out.half_out.items (c.in_ok-base.ensures ∙ c.base.ensures)
+    c.in_ok-half_out.ensures h.ensures.count h.ensures.most
 
-pub overflow_cast-first-2 : goal.overflow_cast-first-2
-overflow_cast-first-2 c = grind (arith, common_steps)
+pub around-requires-clause-half_in : goal.around-requires-clause-half_in
+around-requires-clause-half_in c =
+    let h = c.half_in in
+    halves_copied (link_base c.args.timing.now) c.in_ok-base.base h.result.now c.in_ok-half_in.half_in.items (c.in_ok-base.ensures ∙ c.base.ensures)
+    c.in_ok-half_in.ensures h.ensures.count h.ensures.most

@@ -8,4 +8,4 @@ pub returns-clause-found : goal.returns-clause-found
 returns-clause-found c = is_found c.args.bytes.now c.timing_of.result c.timing_of.ensures
 
 pub returns-clause-only : goal.returns-clause-only
-returns-clause-only c = λ plan held e. subst (λ read. Gives (λ t. t) c.timing_of.result read) (ap timing_of e ∙ timing_again plan held) c.timing_of.ensures
+returns-clause-only c = λ t held e. subst (λ read. Gives (λ t. t) c.timing_of.result read) (ap timing_of e ∙ timing_again t held) c.timing_of.ensures

@@ -9,7 +9,7 @@ pub column_ticks-requires-clause-fits : goal.column_ticks-requires-clause-fits
 column_ticks-requires-clause-fits c =
     let a = c.args.artery.now in let x = c.args.point.now.values.items in
     subst (λ j. ticks_in a x j < 2 ^ 127) (sym c.half_column.ensures.value)
-    (let l = c.requires.known.halves c.args.dir c.args.link (c.requires.first, c.requires.last) in omega arith)
+    (let l = c.requires.known.halves c.args.dir c.args.link c.requires.link in omega arith)
 
 pub returns : goal.returns
 returns c = c.column_ticks.ensures ∙ ap (ticks_in c.args.artery.now c.args.point.now.values.items) c.half_column.ensures.value

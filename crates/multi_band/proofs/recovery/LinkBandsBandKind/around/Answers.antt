@@ -1,18 +1,27 @@
-use Rattle.std.proofs.Common.{◌≤◌, subst, arith}
-use Rattle.artery_model.specs.Bounds.{most_signals}
-use Rattle.multi_band.proofs.LinkTimings.{link_timing_known}
+use Rattle.std.proofs.Common.{◌<◌, ◌^◌, sym, subst, arith}
 use Rattle.std.proofs.lemmas.Grind.{elements}
+use Rattle.progression.specs.declared.parts.Dir.TheVariants.{Outbound, Inbound}
+use Rattle.offset_recovery.proofs.Making.{firsts_fit}
+use Rattle.multi_band.proofs.LinkTimings.{halves_fit}
 use Rattle.multi_band.proofs.recovery.LinkBandsBandKind.around.Goals as goal
 
-pub unreachable-requires : goal.unreachable-requires
-unreachable-requires c =
-    let a = c.args.artery.now in let x = c.args.point.now.values.items in let l = c.args.lines in let p = c.requires.lines in
-    c.in-None.ensures.none
-    (link_timing_known a x c.requires.columns c.grid-grid.result c.args.unit l.patterns.items l.reds.items l.run_out.items l.run_in.items l.first_out
-    l.first_in c.in_ok-half_out.half_out.items c.in_ok-half_in.half_in.items
-    (subst (λ n. 2 ≤ n) c.count-count.ensures.value c.count-count.ensures.few) (subst (λ n. n ≤ most_signals) c.count-count.ensures.value c.count-count.ensures.many)
-    c.requires.known.lines c.requires.placed
-    c.grid-grid.ensures.value c.requires.unit p.patterns p.reds p.run_out p.run_in p.first_out p.first_in c.in_ok-half_out.ensures c.in_ok-half_in.ensures)
+pub around-requires-clause-first_out : goal.around-requires-clause-first_out
+around-requires-clause-first_out c =
+    subst (λ n. n < 2 ^ 80) (sym c.requires.lines.first_out) (firsts_fit c.args.artery.now c.args.point.now.values.items c.requires.placed).outbound
+
+pub around-requires-clause-first_in : goal.around-requires-clause-first_in
+around-requires-clause-first_in c =
+    subst (λ n. n < 2 ^ 80) (sym c.requires.lines.first_in) (firsts_fit c.args.artery.now c.args.point.now.values.items c.requires.placed).inbound
+
+pub around-requires-clause-half_out : goal.around-requires-clause-half_out
+around-requires-clause-half_out c =
+    halves_fit c.args.artery.now c.args.point.now.values.items c.requires.columns Outbound c.args.lines.base c.in_ok-half_out.half_out.items
+    (let few = c.known_valid.ensures.few in omega arith) c.requires.lines.base c.in_ok-half_out.ensures
+
+pub around-requires-clause-half_in : goal.around-requires-clause-half_in
+around-requires-clause-half_in c =
+    halves_fit c.args.artery.now c.args.point.now.values.items c.requires.columns Inbound c.args.lines.base c.in_ok-half_in.half_in.items
+    (let few = c.known_valid.ensures.few in omega arith) c.requires.lines.base c.in_ok-half_in.ensures
 
 pub returns-in_err-half_in : goal.returns-in_err-half_in
 returns-in_err-half_in c = grind (arith, elements)

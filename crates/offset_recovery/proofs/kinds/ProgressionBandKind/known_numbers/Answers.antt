@@ -1,5 +1,5 @@
 use Rattle.offset_recovery.proofs.Making.{ready}
-use Rattle.offset_recovery.proofs.kinds.WholeBandsBandKind.known_numbers.Goals as goal
+use Rattle.offset_recovery.proofs.kinds.ProgressionBandKind.known_numbers.Goals as goal
 
 pub returns-clause-known : goal.returns-clause-known
 returns-clause-known c =

@@ -1,6 +1,6 @@
 use Rattle.std.proofs.Common.{sym}
 use Rattle.plan_text.proofs.Spellings.{none_unless, numeral_is_utf8, some_parsed, none_large, none_huge}
-use Rattle.plan_text.proofs.number.number.Goals as goal
+use Rattle.plan_text.proofs.numeral.number.Goals as goal
 
 pub returns-then-not-is_numeral : goal.returns-then-not-is_numeral
 returns-then-not-is_numeral c = none_unless c.args.word.now (sym c.if-not-is_numeral.ensures)
