@@ -15,7 +15,7 @@ use toml::{Table, Value};
 
 /// Whether a key may stand in a table of its section. The last link has no limits of a change to the
 /// next.
-fn may_stand(links: usize, section: Section, presence: Presence) -> bool
+pub fn may_stand(links: usize, section: Section, presence: Presence) -> bool
     ensures { result ≡ may_stand links section presence }
 {
     match (section, presence) {
@@ -39,7 +39,8 @@ fn is_known(facts: Facts, section: Section, name: &str) -> bool
     false
 }
 
-fn has_key_characters(bytes: &[u8]) -> bool
+/// Whether all bytes are letters, digits, `_` or `-`.
+pub fn has_key_characters(bytes: &[u8]) -> bool
     ensures { result ≡ list_all is_key_character bytes.now }
 {
     bytes.iter().all(|byte| byte.is_ascii_alphanumeric() || *byte == b'_' || *byte == b'-')

@@ -38,12 +38,14 @@ pub use check::check_at;
 pub use demand::Demand;
 pub use judge::facts_of;
 pub use key_table::{Demands, Entry, Presence, When, entries, is_in};
+pub use keys::{has_key_characters, may_stand};
 pub use measure::{Measure, Reference};
 pub use place::{Facts, Section};
 pub use print::{law_one_text, print_artery};
+pub use quantity::integer_in;
 pub use read::{read_artery, read_root};
 pub use typed::{TypedPlan, read_plan};
-pub use values::{items_at, value_at};
+pub use values::{items_at, items_in, text_in, value_at};
 
 /// For any bytes there is at most one answer: one artery, or one fault.
 pub fn law_one_answer()

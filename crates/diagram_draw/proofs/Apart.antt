@@ -6,7 +6,8 @@ use Rattle.std.proofs.lemmas.Int.{ints}
 use Rattle.std.proofs.Math.Nat.{mul-le-mul_right}
 use Rattle.std.proofs.lemmas.Nat.{div-add-mod'}
 use Rattle.progression.specs.Street.{Street, count, red_parts, HasSignal}
-use Rattle.progression.specs.TimingRecord.{TimingRecord, cycle, band, common_red}
+use Rattle.progression.specs.TimingRecord.{TimingRecord, base, band}
+use Rattle.progression.specs.BaseRecord.{cycle, common_red}
 use Rattle.progression.specs.Green.{BandIsGreen, mod_ℤ, red_start, red_ticks}
 use Rattle.progression.specs.Lines.{line_at, IsGreenWay}
 use Rattle.progression.specs.declared.parts.Dir.{Dir}
@@ -69,30 +70,30 @@ module _ (c red b : ℕ) (s x o : ℤ) (h : 0 < c) (g : Gap c s red x b) (m n : 
 
 -- the place of a signal in travel order
 green_there : (a : Street) (t : TimingRecord) (d : Dir) (i : ℕ) → HasSignal a i → IsGreenWay a t d
-    → BandIsGreen (cycle a t) (red_start a t d i) (red_ticks a t d i) (line_at a t d i) (band t d)
+    → BandIsGreen (cycle a (base t)) (red_start a (base t) d i) (red_ticks a (base t) d i) (line_at a t d i) (band t d)
 green_there a t Outbound i h g =
     let e : i - 1 + 1 ≡ i = let l = h.0 in omega (arith, l) in
     let l : i - 1 < count a = let p = h.0 in let q = h.1 in omega (arith, p, q) in
-    subst (λ k. BandIsGreen (cycle a t) (red_start a t Outbound k) (red_ticks a t Outbound k) (line_at a t Outbound i) (band t Outbound)) e (g (i - 1) l)
+    subst (λ k. BandIsGreen (cycle a (base t)) (red_start a (base t) Outbound k) (red_ticks a (base t) Outbound k) (line_at a t Outbound i) (band t Outbound)) e (g (i - 1) l)
 green_there a t Inbound i h g =
     let e : count a - (count a - i) ≡ i = let l = h.1 in omega (arith, l) in
     let l : count a - i < count a = let p = h.0 in let q = h.1 in omega (arith, p, q) in
-    subst (λ k. BandIsGreen (cycle a t) (red_start a t Inbound k) (red_ticks a t Inbound k) (line_at a t Inbound i) (band t Inbound)) e (g (count a - i) l)
+    subst (λ k. BandIsGreen (cycle a (base t)) (red_start a (base t) Inbound k) (red_ticks a (base t) Inbound k) (line_at a t Inbound i) (band t Inbound)) e (g (count a - i) l)
 
 mul-lt : {a b c : ℕ} → a < b → 0 < c → a * c < b * c
 mul-lt {a} {b} {c} h k = grind arith
 
 -- the gap of a signal's band
 pub gap_there : (a : Street) (t : TimingRecord) (d : Dir) (i : ℕ) → IsValid a → 2 ≤ t.unit → HasSignal a i → IsGreenWay a t d
-    → Gap (cycle a t) (red_start a t d i) (red_ticks a t d i) (line_at a t d i) (band t d)
+    → Gap (cycle a (base t)) (red_start a (base t) d i) (red_ticks a (base t) d i) (line_at a t d i) (band t d)
 gap_there a t d i v u h g =
     let r = red_bounds a v d i (let p = h.0 in let q = h.1 in omega (arith, p, q)) in
-    let least : 2 ≤ red_ticks a t d i = let some : 1 * 2 ≤ red_parts a d i * t.unit = mul-le r.0 u in omega (arith, some) in
-    let most : red_ticks a t d i < cycle a t = mul-lt r.1 (omega (arith, u)) in
-    gap_from_green (cycle a t) (red_ticks a t d i) (red_start a t d i) (line_at a t d i) (band t d) least most (green_there a t d i h g)
+    let least : 2 ≤ red_ticks a (base t) d i = let some : 1 * 2 ≤ red_parts a d i * t.unit = mul-le r.0 u in omega (arith, some) in
+    let most : red_ticks a (base t) d i < cycle a (base t) = mul-lt r.1 (omega (arith, u)) in
+    gap_from_green (cycle a (base t)) (red_ticks a (base t) d i) (red_start a (base t) d i) (line_at a t d i) (band t d) least most (green_there a t d i h g)
 
 -- a red has some tick
-pub red_some : (a : Street) (t : TimingRecord) (d : Dir) (i : ℕ) → IsValid a → 2 ≤ t.unit → HasSignal a i → 1 ≤ red_ticks a t d i
+pub red_some : (a : Street) (t : TimingRecord) (d : Dir) (i : ℕ) → IsValid a → 2 ≤ t.unit → HasSignal a i → 1 ≤ red_ticks a (base t) d i
 red_some a t d i v u h =
     let r = red_bounds a v d i (let p = h.0 in let q = h.1 in omega (arith, p, q)) in
     let some : 1 * 2 ≤ red_parts a d i * t.unit = mul-le r.0 u in
@@ -107,10 +108,10 @@ apart_drawn f w r red b h (inr l) = inr (places_ascend f (r +ℤ pos red) w h l)
 pub bands_miss_reds : BandsMissReds
 bands_miss_reds f a t d i m n h e v u s g =
     let gap = gap_there a t d i v u s g in
-    let some : 0 < cycle a t = let l = h.cycle_least in omega (arith, l, e) in
+    let some : 0 < cycle a (base t) = let l = h.cycle_least in omega (arith, l, e) in
     let moments : ((later f (first_window f a t d i) m +ℤ pos (band t d)) ≤ℤ later f (first_red f a t d i) n)
-    ⊎ ((later f (first_red f a t d i) n +ℤ pos (red_ticks a t d i)) ≤ℤ later f (first_window f a t d i) m)
-    = rw e (moments_apart (cycle a t) (red_ticks a t d i) (band t d) (red_start a t d i) (line_at a t d i) (common_red t 1) some gap m n) in
+    ⊎ ((later f (first_red f a t d i) n +ℤ pos (red_ticks a (base t) d i)) ≤ℤ later f (first_window f a t d i) m)
+    = rw e (moments_apart (cycle a (base t)) (red_ticks a (base t) d i) (band t d) (red_start a (base t) d i) (line_at a t d i) (common_red (base t) 1) some gap m n) in
     record {
-      apart = apart_drawn f (later f (first_window f a t d i) m) (later f (first_red f a t d i) n) (red_ticks a t d i) (band t d) h moments;
+      apart = apart_drawn f (later f (first_window f a t d i) m) (later f (first_red f a t d i) n) (red_ticks a (base t) d i) (band t d) h moments;
     }

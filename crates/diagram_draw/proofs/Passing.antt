@@ -6,7 +6,8 @@ use Rattle.std.proofs.lemmas.Int.{ints}
 use Rattle.std.proofs.lemmas.Bool.{cases_lt, leb-true, le-leb}
 use Rattle.std.proofs.Math.Nat.{mul-div_cancel}
 use Rattle.progression.specs.Street.{Street, count, HasLink}
-use Rattle.progression.specs.TimingRecord.{TimingRecord, cycle, run, band, common_red}
+use Rattle.progression.specs.TimingRecord.{TimingRecord, base, band}
+use Rattle.progression.specs.BaseRecord.{cycle, run, common_red}
 use Rattle.progression.specs.Green.{mod_ℤ, red_start, red_ticks}
 use Rattle.progression.specs.Lines.{line_at, IsGreenWay}
 use Rattle.progression.specs.declared.parts.Dir.{Dir}
@@ -158,85 +159,88 @@ back_again : (y r c m : ℕ) → pos y -ℤ pos (1 * c) -ℤ pos r +ℤ pos (m *
 back_again y r c m = omega (arith, ints)
 
 -- ---- the parts that are drawn
-module _ (f : Frame) (a : Street) (t : TimingRecord) (d : Dir) (l : ℕ) (e : f.cycle ≡ cycle a t) where
+module _ (f : Frame) (a : Street) (t : TimingRecord) (d : Dir) (l : ℕ) (e : f.cycle ≡ cycle a (base t)) where
   abbrev line_out : ℤ
   line_out = line_at a t d (tail d l)
 
   abbrev part_of : Edge → ℕ → BandPart
   part_of g m = band_in_cycle f (band_part f a t d g l) m
 
-  leaving_begin : (m : ℕ) → (part_of Leaving m).begin ≡ pos (mod_ℤ (line_out -ℤ common_red t 1) f.cycle) -ℤ pos (1 * f.cycle) +ℤ pos (m * f.cycle)
-  leaving_begin m = ap (λ c. pos (mod_ℤ (line_out -ℤ common_red t 1) c) -ℤ pos (1 * f.cycle) +ℤ pos (m * f.cycle)) (sym e)
+  leaving_begin : (m : ℕ) → (part_of Leaving m).begin ≡ pos (mod_ℤ (line_out -ℤ common_red (base t) 1) f.cycle) -ℤ pos (1 * f.cycle) +ℤ pos (m * f.cycle)
+  leaving_begin m = ap (λ c. pos (mod_ℤ (line_out -ℤ common_red (base t) 1) c) -ℤ pos (1 * f.cycle) +ℤ pos (m * f.cycle)) (sym e)
 
   entering_begin : (m : ℕ) → (part_of Entering m).begin
-      ≡ pos (mod_ℤ (line_out +ℤ pos (run t d l) -ℤ common_red t 1) f.cycle) -ℤ pos (1 * f.cycle) -ℤ pos (run t d l) +ℤ pos (m * f.cycle)
-  entering_begin m = ap (λ c. pos (mod_ℤ (line_out +ℤ pos (run t d l) -ℤ common_red t 1) c) -ℤ pos (1 * f.cycle) -ℤ pos (run t d l) +ℤ pos (m * f.cycle)) (sym e)
+      ≡ pos (mod_ℤ (line_out +ℤ pos (run (base t) d l) -ℤ common_red (base t) 1) f.cycle) -ℤ pos (1 * f.cycle) -ℤ pos (run (base t) d l) +ℤ pos (m * f.cycle)
+  entering_begin m = ap (λ c. pos (mod_ℤ (line_out +ℤ pos (run (base t) d l) -ℤ common_red (base t) 1) c) -ℤ pos (1 * f.cycle) -ℤ pos (run (base t) d l) +ℤ pos (m * f.cycle)) (sym e)
 
   is_drawn : (g : Edge) (m : ℕ) → m < f.cycles + 1 → IsTrue (is_chosen f g (part_of g m)) → IsDrawnPart f a t d l (part_of g m)
   is_drawn g m lt chosen = record { edge = g; cycle = m; shown = lt; is = refl; chosen = chosen }
 
   module _ (some : 0 < f.cycle) (below : band t d < f.cycle) (n : ℕ) (w : n < f.cycles * f.cycle) where
-    passes_leaving : (g : Edge) (m : ℕ) → IsWithin (part_of g m).begin (band t d) (pos n) → IsTrue (nat_le (mod_ℤ (common_red t 1 +ℤ pos n -ℤ line_out) f.cycle) (band t d))
+    passes_leaving : (g : Edge) (m : ℕ) → IsWithin (part_of g m).begin (band t d) (pos n) → IsTrue (nat_le (mod_ℤ (common_red (base t) 1 +ℤ pos n -ℤ line_out) f.cycle) (band t d))
     passes_leaving Leaving m h =
-        passing_within f.cycle (band t d) line_out (common_red t 1) some below f.cycles n w (pos m) (part_of Leaving m).begin
-        (leaving_begin m ∙ same_after (pos (mod_ℤ (line_out -ℤ common_red t 1) f.cycle) -ℤ pos (1 * f.cycle)) f.cycle m) h
+        passing_within f.cycle (band t d) line_out (common_red (base t) 1) some below f.cycles n w (pos m) (part_of Leaving m).begin
+        (leaving_begin m ∙ same_after (pos (mod_ℤ (line_out -ℤ common_red (base t) 1) f.cycle) -ℤ pos (1 * f.cycle)) f.cycle m) h
     passes_leaving Entering m h =
-        passing_within f.cycle (band t d) line_out (common_red t 1) some below f.cycles n w _ (part_of Entering m).begin
-        (entering_begin m ∙ leaves_at f.cycle (run t d l) line_out (common_red t 1) some m) h
+        passing_within f.cycle (band t d) line_out (common_red (base t) 1) some below f.cycles n w _ (part_of Entering m).begin
+        (entering_begin m ∙ leaves_at f.cycle (run (base t) d l) line_out (common_red (base t) 1) some m) h
 
-    passes_entering : (g : Edge) (m : ℕ) → IsWithin ((part_of g m).begin +ℤ pos (run t d l)) (band t d) (pos n)
-        → IsTrue (nat_le (mod_ℤ (common_red t 1 +ℤ pos n -ℤ (line_out +ℤ pos (run t d l))) f.cycle) (band t d))
+    passes_entering : (g : Edge) (m : ℕ) → IsWithin ((part_of g m).begin +ℤ pos (run (base t) d l)) (band t d) (pos n)
+        → IsTrue (nat_le (mod_ℤ (common_red (base t) 1 +ℤ pos n -ℤ (line_out +ℤ pos (run (base t) d l))) f.cycle) (band t d))
     passes_entering Leaving m h =
-        passing_within f.cycle (band t d) (line_out +ℤ pos (run t d l)) (common_red t 1) some below f.cycles n w _ ((part_of Leaving m).begin +ℤ pos (run t d l))
-        (ap (λ x. x +ℤ pos (run t d l)) (leaving_begin m) ∙ enters_at f.cycle (run t d l) line_out (common_red t 1) some m) h
+        passing_within f.cycle (band t d) (line_out +ℤ pos (run (base t) d l)) (common_red (base t) 1) some below f.cycles n w _ ((part_of Leaving m).begin +ℤ pos (run (base t) d l))
+        (ap (λ x. x +ℤ pos (run (base t) d l)) (leaving_begin m) ∙ enters_at f.cycle (run (base t) d l) line_out (common_red (base t) 1) some m) h
     passes_entering Entering m h =
-        passing_within f.cycle (band t d) (line_out +ℤ pos (run t d l)) (common_red t 1) some below f.cycles n w (pos m) ((part_of Entering m).begin +ℤ pos (run t d l))
-        (ap (λ x. x +ℤ pos (run t d l)) (entering_begin m) ∙ (back_again _ (run t d l) f.cycle m ∙ same_after _ f.cycle m)) h
+        passing_within f.cycle (band t d) (line_out +ℤ pos (run (base t) d l)) (common_red (base t) 1) some below f.cycles n w (pos m) ((part_of Entering m).begin +ℤ pos (run (base t) d l))
+        (ap (λ x. x +ℤ pos (run (base t) d l)) (entering_begin m) ∙ (back_again _ (run (base t) d l) f.cycle m ∙ same_after _ f.cycle m)) h
 
-    leaves : IsTrue (nat_le (mod_ℤ (common_red t 1 +ℤ pos n -ℤ line_out) f.cycle) (band t d)) → (part : BandPart) × IsDrawnPart f a t d l part × IsWithin part.begin part.band (pos n)
+    leaves : IsTrue (nat_le (mod_ℤ (common_red (base t) 1 +ℤ pos n -ℤ line_out) f.cycle) (band t d)) → (part : BandPart) × IsDrawnPart f a t d l part × IsWithin part.begin part.band (pos n)
     leaves g =
-        let found = within_some f.cycle (band t d) line_out (common_red t 1) some below f.cycles n w g in
+        let found = within_some f.cycle (band t d) line_out (common_red (base t) 1) some below f.cycles n w g in
         let within : IsWithin (part_of Leaving found.0).begin (band t d) (pos n) = subst (λ x. IsWithin x (band t d) (pos n)) (sym (leaving_begin found.0)) found.2 in
         (part_of Leaving found.0, is_drawn Leaving found.0 found.1 (is_seen_so f (part_of Leaving found.0).begin (band t d) (within_seen _ (band t d) (f.cycles * f.cycle) n w within)), within)
 
     -- a part that leaves within the time that is shown, where it begins with one that enters
-    same_part : (m : ℕ) → IsWithin ((part_of Entering m).begin +ℤ pos (run t d l)) (band t d) (pos n) → IsTrue (is_seen f (part_of Entering m).begin (band t d))
+    same_part : (m : ℕ) → IsWithin ((part_of Entering m).begin +ℤ pos (run (base t) d l)) (band t d) (pos n) → IsTrue (is_seen f (part_of Entering m).begin (band t d))
         → (part : BandPart) × IsDrawnPart f a t d l part × IsWithin (part.begin +ℤ pos part.run) part.band (pos n)
     same_part m h seen =
-        let there = entering_begin m ∙ leaves_at f.cycle (run t d l) line_out (common_red t 1) some m in
-        let found = number_seen _ (part_of Entering m).begin f.cycle (band t d) (mod_ℤ (line_out -ℤ common_red t 1) f.cycle) f.cycles
-        (mod_below (line_out -ℤ common_red t 1) f.cycle some) (omega (arith, below)) there (seen_is f (part_of Entering m).begin (band t d) seen) in
+        let there = entering_begin m ∙ leaves_at f.cycle (run (base t) d l) line_out (common_red (base t) 1) some m in
+        let found = number_seen _ (part_of Entering m).begin f.cycle (band t d) (mod_ℤ (line_out -ℤ common_red (base t) 1) f.cycle) f.cycles
+        (mod_below (line_out -ℤ common_red (base t) 1) f.cycle some) (omega (arith, below)) there (seen_is f (part_of Entering m).begin (band t d) seen) in
         let same : (part_of Entering m).begin ≡ (part_of Leaving found.0).begin
-        = there ∙ (ap (λ k. pos (mod_ℤ (line_out -ℤ common_red t 1) f.cycle) -ℤ pos (1 * f.cycle) +ℤ k *ℤ pos f.cycle) found.2
-        ∙ sym (leaving_begin found.0 ∙ same_after _ f.cycle found.0)) in
-        (part_of Leaving found.0, is_drawn Leaving found.0 found.1 (subst (λ x. IsTrue (is_seen f x (band t d))) same seen), subst (λ x. IsWithin (x +ℤ pos (run t d l)) (band t d) (pos n)) same h)
+        = there ∙ (ap (λ k. pos (mod_ℤ (line_out -ℤ common_red (base t) 1) f.cycle) -ℤ pos (1 * f.cycle) +ℤ k *ℤ pos f.cycle) found.2
+        ∙ sym (leaving_begin found.0 ∙ same_after _ f.cycle found.0)) in (
+          part_of Leaving found.0,
+          is_drawn Leaving found.0 found.1 (subst (λ x. IsTrue (is_seen f x (band t d))) same seen),
+          subst (λ x. IsWithin (x +ℤ pos (run (base t) d l)) (band t d) (pos n)) same h,
+        )
 
-    enters_by : (m : ℕ) → m < f.cycles + 1 → IsWithin ((part_of Entering m).begin +ℤ pos (run t d l)) (band t d) (pos n) → (b : Bool) → is_seen f (part_of Entering m).begin (band t d) ≡ b
+    enters_by : (m : ℕ) → m < f.cycles + 1 → IsWithin ((part_of Entering m).begin +ℤ pos (run (base t) d l)) (band t d) (pos n) → (b : Bool) → is_seen f (part_of Entering m).begin (band t d) ≡ b
         → (part : BandPart) × IsDrawnPart f a t d l part × IsWithin (part.begin +ℤ pos part.run) part.band (pos n)
     enters_by m lt h true q = same_part m h q
     enters_by m lt h false q =
-        let seen = is_seen_so f ((part_of Entering m).begin +ℤ pos (run t d l)) (band t d) (within_seen _ (band t d) (f.cycles * f.cycle) n w h) in
+        let seen = is_seen_so f ((part_of Entering m).begin +ℤ pos (run (base t) d l)) (band t d) (within_seen _ (band t d) (f.cycles * f.cycle) n w h) in
         (part_of Entering m, is_drawn Entering m lt (true_both _ (not (is_seen f (part_of Entering m).begin (band t d))) seen (ap not q)), h)
 
-    enters : IsTrue (nat_le (mod_ℤ (common_red t 1 +ℤ pos n -ℤ (line_out +ℤ pos (run t d l))) f.cycle) (band t d))
+    enters : IsTrue (nat_le (mod_ℤ (common_red (base t) 1 +ℤ pos n -ℤ (line_out +ℤ pos (run (base t) d l))) f.cycle) (band t d))
         → (part : BandPart) × IsDrawnPart f a t d l part × IsWithin (part.begin +ℤ pos part.run) part.band (pos n)
     enters g =
-        let found = within_some f.cycle (band t d) (line_out +ℤ pos (run t d l)) (common_red t 1) some below f.cycles n w g in
-        let there = ap (λ x. x +ℤ pos (run t d l)) (entering_begin found.0) ∙ back_again _ (run t d l) f.cycle found.0 in
+        let found = within_some f.cycle (band t d) (line_out +ℤ pos (run (base t) d l)) (common_red (base t) 1) some below f.cycles n w g in
+        let there = ap (λ x. x +ℤ pos (run (base t) d l)) (entering_begin found.0) ∙ back_again _ (run (base t) d l) f.cycle found.0 in
         enters_by found.0 found.1 (subst (λ x. IsWithin x (band t d) (pos n)) (sym there) found.2) (is_seen f (part_of Entering found.0).begin (band t d)) refl
 
     band_shown : IsBandShown f a t d l n
     band_shown = record {
       leaving = (
-        (λ g. leaves (subst (λ c. IsTrue (nat_le (mod_ℤ (common_red t 1 +ℤ pos n -ℤ line_out) c) (band t d))) (sym e) g)),
+        (λ g. leaves (subst (λ c. IsTrue (nat_le (mod_ℤ (common_red (base t) 1 +ℤ pos n -ℤ line_out) c) (band t d))) (sym e) g)),
         (λ p. let drawn = p.1 in
-            subst (λ c. IsTrue (nat_le (mod_ℤ (common_red t 1 +ℤ pos n -ℤ line_out) c) (band t d))) e
+            subst (λ c. IsTrue (nat_le (mod_ℤ (common_red (base t) 1 +ℤ pos n -ℤ line_out) c) (band t d))) e
             (passes_leaving drawn.edge drawn.cycle (subst (λ (b : BandPart). IsWithin b.begin b.band (pos n)) drawn.is p.2))),
       );
       entering = (
-        (λ g. enters (subst (λ c. IsTrue (nat_le (mod_ℤ (common_red t 1 +ℤ pos n -ℤ (line_out +ℤ pos (run t d l))) c) (band t d))) (sym e) g)),
+        (λ g. enters (subst (λ c. IsTrue (nat_le (mod_ℤ (common_red (base t) 1 +ℤ pos n -ℤ (line_out +ℤ pos (run (base t) d l))) c) (band t d))) (sym e) g)),
         (λ p. let drawn = p.1 in
-            subst (λ c. IsTrue (nat_le (mod_ℤ (common_red t 1 +ℤ pos n -ℤ (line_out +ℤ pos (run t d l))) c) (band t d))) e
+            subst (λ c. IsTrue (nat_le (mod_ℤ (common_red (base t) 1 +ℤ pos n -ℤ (line_out +ℤ pos (run (base t) d l))) c) (band t d))) e
             (passes_entering drawn.edge drawn.cycle (subst (λ (b : BandPart). IsWithin (b.begin +ℤ pos b.run) b.band (pos n)) drawn.is p.2))),
       );
     }
@@ -249,7 +253,7 @@ bands_are_shown f a t d l n h e v u there g w =
     let gap = gap_there a t d l v u (here, omega (arith, last)) g in
     let room = gap.room in
     let free = gap.free in
-    let least : 1 ≤ red_ticks a t d l = red_some a t d l v u (here, omega (arith, last)) in
+    let least : 1 ≤ red_ticks a (base t) d l = red_some a t d l v u (here, omega (arith, last)) in
     band_shown f a t d l e some (omega (arith, e, room, free, least)) n w
 
 -- ---- each is seen

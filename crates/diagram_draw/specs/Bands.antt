@@ -3,7 +3,8 @@
 use Rattle.std.specs.Prelude.{ℕ, ◌+◌, ◌-◌, ◌*◌, Bool, not, ◌&&◌, if◌then◌else◌, ℤ, pos, ◌+ℤ◌, ◌-ℤ◌, int_le, int_lt, List, [], ◌∷◌, ◌++◌}
 use Rattle.std.specs.List.{flat_map, range_with_len}
 use Rattle.progression.specs.Street.{Street, count}
-use Rattle.progression.specs.TimingRecord.{TimingRecord, run, band}
+use Rattle.progression.specs.TimingRecord.{TimingRecord, base, band}
+use Rattle.progression.specs.BaseRecord.{run}
 use Rattle.progression.specs.Lines.{line_at}
 use Rattle.progression.specs.declared.parts.Dir.{Dir}
 use Rattle.progression.specs.declared.parts.Dir.TheVariants.{Outbound, Inbound}
@@ -89,7 +90,7 @@ some_pieces f e part cycles = flat_map (λ m. chosen_piece f e (band_in_cycle f 
 -- when the band leaves the link's first signal, in the cycle before the first that is shown; or when it leaves so as to enter the second in that cycle
 abbrev pub first_begin : Frame → Street → TimingRecord → Dir → Edge → ℕ → ℤ
 first_begin f a t d Leaving l = earlier f 1 (after_start a t (line_at a t d (tail d l)))
-first_begin f a t d Entering l = earlier f 1 (after_start a t (line_at a t d (tail d l) +ℤ pos (run t d l))) -ℤ pos (run t d l)
+first_begin f a t d Entering l = earlier f 1 (after_start a t (line_at a t d (tail d l) +ℤ pos (run (base t) d l))) -ℤ pos (run (base t) d l)
 
 -- a direction's band on a link in the first of these cycles
 abbrev pub band_part : Frame → Street → TimingRecord → Dir → Edge → ℕ → BandPart
@@ -98,7 +99,7 @@ band_part f a t d e l = record {
   from = leaving_level f a d l;
   to = entering_level f a d l;
   begin = first_begin f a t d e l;
-  run = run t d l;
+  run = run (base t) d l;
   band = band t d;
 }
 

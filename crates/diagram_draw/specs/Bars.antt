@@ -3,7 +3,8 @@
 use Rattle.std.specs.Prelude.{ℕ, ◌+◌, ◌*◌, ◌==◌, if◌then◌else◌, ℤ, pos, ◌+ℤ◌, ◌-ℤ◌, List, [], ◌∷◌, ◌++◌, map}
 use Rattle.std.specs.List.{flat_map, range_with_len}
 use Rattle.progression.specs.Street.{Street, count, signal_of, left_against}
-use Rattle.progression.specs.TimingRecord.{TimingRecord, band, pattern_of}
+use Rattle.progression.specs.TimingRecord.{TimingRecord, base, band}
+use Rattle.progression.specs.BaseRecord.{pattern_of}
 use Rattle.progression.specs.Green.{is_early, red_start}
 use Rattle.progression.specs.Lines.{line_at}
 use Rattle.progression.specs.declared.parts.Dir.{Dir}
@@ -43,7 +44,7 @@ blocks f part = some_blocks f part (f.cycles + 1)
 -- ---- what they show
 -- where the direction's red and its band begin in the cycle before the first
 abbrev pub first_red : Frame → Street → TimingRecord → Dir → ℕ → ℤ
-first_red f a t d i = earlier f 1 (after_start a t (red_start a t d i))
+first_red f a t d i = earlier f 1 (after_start a t (red_start a (base t) d i))
 
 abbrev pub first_window : Frame → Street → TimingRecord → Dir → ℕ → ℤ
 first_window f a t d i = earlier f 1 (after_start a t (line_at a t d i))
@@ -57,10 +58,10 @@ turn_ticks a t d i = left_against a d i * t.unit
 
 -- how long after the start of the direction's red each of them begins: the left turn that lags comes first
 abbrev pub common_wait : Street → TimingRecord → Dir → ℕ → ℕ
-common_wait a t d i = if is_early d (pattern_of t i) then turn_ticks a t d i else 0
+common_wait a t d i = if is_early d (pattern_of (base t) i) then turn_ticks a t d i else 0
 
 abbrev pub turn_wait : Street → TimingRecord → Dir → ℕ → ℕ
-turn_wait a t d i = if is_early d (pattern_of t i) then 0 else common_ticks a t i
+turn_wait a t d i = if is_early d (pattern_of (base t) i) then 0 else common_ticks a t i
 
 abbrev pub window_paint : Dir → Paint
 window_paint Outbound = paint.OutWindow

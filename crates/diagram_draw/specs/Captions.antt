@@ -7,7 +7,8 @@ use Rattle.rational_theory.specs.Rational.{ℚ, over}
 use Rattle.progression.specs.Best.{weighted_band}
 use Rattle.progression.specs.Green.{is_early}
 use Rattle.progression.specs.Street.{Street, count, signal_of, left_against, clearance, distance}
-use Rattle.progression.specs.TimingRecord.{TimingRecord, cycle, run, band, pattern_of}
+use Rattle.progression.specs.TimingRecord.{TimingRecord, base, band}
+use Rattle.progression.specs.BaseRecord.{cycle, run, pattern_of}
 use Rattle.progression.specs.declared.parts.Units.{Units}
 use Rattle.progression.specs.declared.parts.Units.TheVariants.{Metric, English}
 use Rattle.progression.specs.declared.parts.Dir.{Dir}
@@ -177,7 +178,7 @@ turn_word turn early = if turn == 0 then codes "-" else if early then codes "lag
 
 -- the outbound left turn, which is against the inbound direction, and the inbound one
 abbrev pub turn_text : Street → TimingRecord → Dir → ℕ → List ℕ
-turn_text a t d i = turn_word (left_against a d i) (is_early d (pattern_of t i))
+turn_text a t d i = turn_word (left_against a d i) (is_early d (pattern_of (base t) i))
 
 abbrev pub pattern_text : Street → TimingRecord → ℕ → List ℕ
 pattern_text a t i = if left_against a Outbound i + left_against a Inbound i == 0 then codes "-" else turn_text a t Inbound i ++ (codes "/" ++ turn_text a t Outbound i)
@@ -211,7 +212,7 @@ lengths_text both out back = if both then decimal out ++ (codes "/" ++ decimal b
 
 -- none where a run takes no time
 abbrev pub link_speed_text : Street → TimingRecord → Dir → ℕ → List ℕ
-link_speed_text a t d l = if run t d l == 0 then codes "-" else tenths (link_speed a t d l)
+link_speed_text a t d l = if run (base t) d l == 0 then codes "-" else tenths (link_speed a t d l)
 
 unfoldable pub link_row : Frame → Street → TimingRecord → ℕ → List Caption
 link_row f a t l =

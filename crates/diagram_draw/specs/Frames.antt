@@ -2,7 +2,8 @@
 use Rattle.std.specs.Prelude.{ℕ, zero, suc, ◌+◌, ◌-◌, ◌*◌, ◌/◌, ◌<◌, ◌≤◌, ◌^◌, min, max, nat_le, if◌then◌else◌, ℤ, pos, ◌+ℤ◌, ◌-ℤ◌, ◌*ℤ◌}
 use Rattle.std.specs.Int.{int_div_euclid}
 use Rattle.progression.specs.Street.{Street, count, signal_of, distance}
-use Rattle.progression.specs.TimingRecord.{TimingRecord, cycle, run, band}
+use Rattle.progression.specs.TimingRecord.{TimingRecord, base, band}
+use Rattle.progression.specs.BaseRecord.{cycle, run}
 use Rattle.progression.specs.declared.parts.Dir.{Dir}
 use Rattle.progression.specs.declared.parts.Dir.TheVariants.{Outbound, Inbound}
 use Rattle.diagram_draw.specs.declared.frame.Frame.{Frame}
@@ -28,7 +29,7 @@ both_bars = 180
 -- how many ticks the runs of the first links take together
 abbrev pub trip : TimingRecord → Dir → ℕ → ℕ
 trip t d zero = 0
-trip t d (suc j) = trip t d j + run t d (suc j)
+trip t d (suc j) = trip t d j + run (base t) d (suc j)
 
 -- so many ticks at most lie between a band's first tick anywhere and its last
 abbrev pub reach : Street → TimingRecord → Dir → ℕ
@@ -82,8 +83,8 @@ columns_left = 1780
 abbrev pub frame_of : Street → TimingRecord → Frame
 frame_of a t = record {
   left = name_room a + columns_left;
-  cycles = cycles_for (longest_reach a t) (cycle a t);
-  cycle = cycle a t;
+  cycles = cycles_for (longest_reach a t) (cycle a (base t));
+  cycle = cycle a (base t);
   span = span_for a;
 }
 

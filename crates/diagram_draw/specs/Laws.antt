@@ -2,7 +2,8 @@
 -- between two signals.
 use Rattle.std.specs.Prelude.{◌≡◌, ◌⊎◌, ◌↔◌, Contains, Option, List, ℕ, ◌+◌, ◌-◌, ◌*◌, ◌<◌, ◌≤◌, nat_le, ℤ, pos, ◌+ℤ◌, ◌≤ℤ◌, Bool, true, false, IsTrue}
 use Rattle.progression.specs.Street.{Street, count, HasSignal, HasLink, clearance}
-use Rattle.progression.specs.TimingRecord.{TimingRecord, cycle, run, band, common_red}
+use Rattle.progression.specs.TimingRecord.{TimingRecord, base, band}
+use Rattle.progression.specs.BaseRecord.{cycle, run, common_red}
 use Rattle.progression.specs.Green.{since, is_green, red_start, red_ticks}
 use Rattle.progression.specs.Lines.{line_at, IsGreenWay}
 use Rattle.progression.specs.declared.parts.Dir.{Dir}
@@ -27,8 +28,8 @@ PlacesAscend = (f : Frame) (early late : ℤ) → IsFrame f → early ≤ℤ lat
 -- ---- reds
 -- The two parts of a direction's red are the whole of it, one after the other, and one begins with the signal's common red.
 pub record AreRedParts (a : Street) (t : TimingRecord) (d : Dir) (i : ℕ) : Type 0 where
-  pub begun : red_start a t d i +ℤ pos (common_wait a t d i) ≡ common_red t i
-  pub whole : common_ticks a t i + turn_ticks a t d i ≡ red_ticks a t d i
+  pub begun : red_start a (base t) d i +ℤ pos (common_wait a t d i) ≡ common_red (base t) i
+  pub whole : common_ticks a t i + turn_ticks a t d i ≡ red_ticks a (base t) d i
   pub order : ((common_wait a t d i ≡ 0) × (turn_wait a t d i ≡ common_ticks a t i)) ⊎ ((turn_wait a t d i ≡ 0) × (common_wait a t d i ≡ turn_ticks a t d i))
 
 abbrev pub RedsHaveTwoParts : Type 0
@@ -38,26 +39,26 @@ RedsHaveTwoParts = (a : Street) (t : TimingRecord) (d : Dir) (i : ℕ) → AreRe
 -- the red and the band of a direction at a signal, in any two cycles: one is over where the other begins, and so it is drawn
 pub record AreApart (f : Frame) (a : Street) (t : TimingRecord) (d : Dir) (i m n : ℕ) : Type 0 where
   pub apart : (x_at f (later f (first_window f a t d i) m +ℤ pos (band t d)) ≤ℤ x_at f (later f (first_red f a t d i) n))
-      ⊎ (x_at f (later f (first_red f a t d i) n +ℤ pos (red_ticks a t d i)) ≤ℤ x_at f (later f (first_window f a t d i) m))
+      ⊎ (x_at f (later f (first_red f a t d i) n +ℤ pos (red_ticks a (base t) d i)) ≤ℤ x_at f (later f (first_window f a t d i) m))
 
 abbrev pub BandsMissReds : Type 0
 BandsMissReds =
-    (f : Frame) (a : Street) (t : TimingRecord) (d : Dir) (i m n : ℕ) → IsFrame f → f.cycle ≡ cycle a t → IsValid a → 2 ≤ t.unit → HasSignal a i → IsGreenWay a t d
+    (f : Frame) (a : Street) (t : TimingRecord) (d : Dir) (i m n : ℕ) → IsFrame f → f.cycle ≡ cycle a (base t) → IsValid a → 2 ≤ t.unit → HasSignal a i → IsGreenWay a t d
     → AreApart f a t d i m n
 
 -- At a moment within the cycles that are shown a direction is red at a signal exactly where it is strictly inside one of the reds that are drawn.
 abbrev pub RedsAreShown : Type 0
 RedsAreShown =
-    (f : Frame) (a : Street) (t : TimingRecord) (d : Dir) (i n : ℕ) → IsFrame f → f.cycle ≡ cycle a t → IsValid a → 2 ≤ t.unit → HasSignal a i → n < f.cycles * f.cycle
-    → (is_green (cycle a t) (red_start a t d i) (red_ticks a t d i) (common_red t 1 +ℤ pos n) ≡ false)
-    ↔ ((m : ℕ) × (m < f.cycles + 1) × IsInside (later f (first_red f a t d i) m) (red_ticks a t d i) (pos n))
+    (f : Frame) (a : Street) (t : TimingRecord) (d : Dir) (i n : ℕ) → IsFrame f → f.cycle ≡ cycle a (base t) → IsValid a → 2 ≤ t.unit → HasSignal a i → n < f.cycles * f.cycle
+    → (is_green (cycle a (base t)) (red_start a (base t) d i) (red_ticks a (base t) d i) (common_red (base t) 1 +ℤ pos n) ≡ false)
+    ↔ ((m : ℕ) × (m < f.cycles + 1) × IsInside (later f (first_red f a t d i) m) (red_ticks a (base t) d i) (pos n))
 
 -- The band reaches the signal at the end of a link a run after it left the one at its start, and began there earlier by the time that the queue has to
 -- clear: so the piece of a link enters that long after the band at the signal where it enters begins.
 abbrev pub PiecesMeetWindows : Type 0
 PiecesMeetWindows =
     (a : Street) (t : TimingRecord) (d : Dir) (l : ℕ) → HasLink a l
-    → line_at a t d (head d l) +ℤ pos (clearance a d (head d l) * t.unit) ≡ line_at a t d (tail d l) +ℤ pos (run t d l)
+    → line_at a t d (head d l) +ℤ pos (clearance a d (head d l) * t.unit) ≡ line_at a t d (tail d l) +ℤ pos (run (base t) d l)
 
 -- a moment from where a band begins that is so wide to where it ends
 pub record IsWithin (begin : ℤ) (band : ℕ) (moment : ℤ) : Type 0 where
@@ -66,18 +67,18 @@ pub record IsWithin (begin : ℤ) (band : ℕ) (moment : ℤ) : Type 0 where
 
 -- whether a direction's band of some cycle passes so many ticks after the start of the common red of signal 1, where its first line passes at this tick
 abbrev pub is_passing : Street → TimingRecord → Dir → ℤ → ℕ → Bool
-is_passing a t d line n = nat_le (since (cycle a t) line (common_red t 1 +ℤ pos n)) (band t d)
+is_passing a t d line n = nat_le (since (cycle a (base t)) line (common_red (base t) 1 +ℤ pos n)) (band t d)
 
 -- the band leaves the link's first signal at a moment exactly where one of the pieces that are drawn leaves it then, and enters the second, a run later, exactly where one enters
 pub record IsBandShown (f : Frame) (a : Street) (t : TimingRecord) (d : Dir) (l n : ℕ) : Type 0 where
   pub leaving : IsTrue (is_passing a t d (line_at a t d (tail d l)) n) ↔ ((part : BandPart) × IsDrawnPart f a t d l part × IsWithin part.begin part.band (pos n))
-  pub entering : IsTrue (is_passing a t d (line_at a t d (tail d l) +ℤ pos (run t d l)) n)
+  pub entering : IsTrue (is_passing a t d (line_at a t d (tail d l) +ℤ pos (run (base t) d l)) n)
       ↔ ((part : BandPart) × IsDrawnPart f a t d l part × IsWithin (part.begin +ℤ pos part.run) part.band (pos n))
 
 -- So it is at each moment within the cycles that are shown, of a direction with a band and on each link, however long its run is.
 abbrev pub BandsAreShown : Type 0
 BandsAreShown =
-    (f : Frame) (a : Street) (t : TimingRecord) (d : Dir) (l n : ℕ) → IsFrame f → f.cycle ≡ cycle a t → IsValid a → 2 ≤ t.unit → HasLink a l → IsGreenWay a t d → n < f.cycles * f.cycle
+    (f : Frame) (a : Street) (t : TimingRecord) (d : Dir) (l n : ℕ) → IsFrame f → f.cycle ≡ cycle a (base t) → IsValid a → 2 ≤ t.unit → HasLink a l → IsGreenWay a t d → n < f.cycles * f.cycle
     → IsBandShown f a t d l n
 
 -- And of each piece that is drawn one end is somewhere within these cycles.

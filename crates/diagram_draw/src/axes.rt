@@ -1,7 +1,7 @@
 //! What stands behind the bands: the page, the field, and the lines of seconds, of cycles and of the signals.
 
 ghost use Rattle.std.specs.Prelude.{◌≡◌, ◌+◌, ◌-◌, ◌*◌, ◌<◌, ◌≤◌, ◌^◌, IfOk, pos};
-ghost use Rattle.progression.specs.Street.{count};
+ghost use Rattle.progression.specs.Street.{count, HasSignal};
 ghost use Rattle.diagram_draw.specs.Frames.{IsFrame};
 ghost use Rattle.diagram_draw.specs.Axes.{seconds_shown, step_for, steps_shown, second_at, second_line, second_lines, cycle_line, cycle_lines, level_line, level_lines, paper, plot, back};
 
@@ -169,8 +169,7 @@ fn cycle_lines(alloc: Global, frame: Frame) -> Result<Vec<Shape>, AllocError>
 
 fn level_line(frame: Frame, artery: &Artery, signal: u32) -> Shape
     requires frame { IsFrame frame }
-    requires first { 1 ≤ signal }
-    requires last { signal ≤ count artery.now }
+    requires signal { HasSignal artery.now signal }
     ensures { result ≡ level_line frame artery.now signal }
 {
     let level = i128::from(level(frame, artery, signal));

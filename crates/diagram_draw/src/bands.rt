@@ -1,10 +1,11 @@
 //! The bands between the signals.
 
-ghost use Rattle.std.specs.Prelude.{◌≡◌, ◌++◌, ◌<◌, ◌≤◌, ◌^◌, IfOk, OnOk, pos, ◌-ℤ◌, length, unsigned_abs};
-ghost use Rattle.progression.specs.{Street.{count}};
+ghost use Rattle.std.specs.Prelude.{◌≡◌, ◌++◌, ◌<◌, ◌≤◌, ◌^◌, IfOk, OnOk, pos, ◌-ℤ◌, unsigned_abs};
+ghost use Rattle.progression.specs.{Street.{count, HasLink}, TimingRecord.{base}};
 ghost use Rattle.diagram_draw.specs.Frames.{IsFrame};
 ghost use Rattle.diagram_draw.specs.Bands.{tail, leaving_level, entering_level, band_paint, line_paint, slant, first_line, is_narrow, piece, is_seen, is_chosen};
 ghost use Rattle.diagram_draw.specs.Bands.{chosen_piece, some_pieces, first_begin, edge_pieces, pieces, link_pieces, all_pieces};
+ghost use Rattle.time_space.specs.Timing.{IsFor};
 
 use crate::bars::after;
 use crate::frame::{Frame, above, below, cycles_ticks, earlier, later, level, moment_after, x_at};
@@ -57,8 +58,7 @@ fn tail(dir: Dir, link: u32) -> u32
 /// The level at which a direction's band leaves the signal where a link begins.
 fn leaving_level(frame: Frame, artery: &Artery, dir: Dir, link: u32) -> i128
     requires frame { IsFrame frame }
-    requires first { 1 ≤ link }
-    requires last { link < count artery.now }
+    requires link { HasLink artery.now link }
     ensures value { result ≡ leaving_level frame artery.now dir link }
     ensures small { unsigned_abs result < 30000 }
 {
@@ -73,8 +73,7 @@ fn leaving_level(frame: Frame, artery: &Artery, dir: Dir, link: u32) -> i128
 /// The level at which it reaches the signal where the link ends.
 fn entering_level(frame: Frame, artery: &Artery, dir: Dir, link: u32) -> i128
     requires frame { IsFrame frame }
-    requires first { 1 ≤ link }
-    requires last { link < count artery.now }
+    requires link { HasLink artery.now link }
     ensures value { result ≡ entering_level frame artery.now dir link }
     ensures small { unsigned_abs result < 30000 }
 {
@@ -262,9 +261,8 @@ fn first_begin(
     link: u32,
 ) -> i128
     requires frame { IsFrame frame }
-    requires shape { length timing.now.patterns ≡ count artery.now }
-    requires first { 1 ≤ link }
-    requires last { link < count artery.now }
+    requires shape { IsFor artery.now (base timing.now) }
+    requires link { HasLink artery.now link }
     ensures value { result ≡ first_begin frame artery.now timing.now dir edge link }
     ensures small { unsigned_abs result < 2 ^ 99 }
 {
@@ -292,9 +290,8 @@ fn edge_pieces(
     link: u32,
 ) -> Result<Vec<Shape>, AllocError>
     requires frame { IsFrame frame }
-    requires shape { length timing.now.patterns ≡ count artery.now }
-    requires first { 1 ≤ link }
-    requires last { link < count artery.now }
+    requires shape { IsFor artery.now (base timing.now) }
+    requires link { HasLink artery.now link }
     ensures { IfOk result (λ shapes. shapes.items ≡ edge_pieces frame artery.now timing.now dir edge link) }
 {
     let part = BandPart {
@@ -318,9 +315,8 @@ fn pieces(
     link: u32,
 ) -> Result<Vec<Shape>, Memory>
     requires frame { IsFrame frame }
-    requires shape { length timing.now.patterns ≡ count artery.now }
-    requires first { 1 ≤ link }
-    requires last { link < count artery.now }
+    requires shape { IsFor artery.now (base timing.now) }
+    requires link { HasLink artery.now link }
     ensures { IfOk result (λ shapes. shapes.items ≡ pieces frame artery.now timing.now dir link) }
 {
     if !has_band(artery, timing, dir) {
@@ -341,9 +337,8 @@ fn link_pieces(
     link: u32,
 ) -> Result<Vec<Shape>, Memory>
     requires frame { IsFrame frame }
-    requires shape { length timing.now.patterns ≡ count artery.now }
-    requires first { 1 ≤ link }
-    requires last { link < count artery.now }
+    requires shape { IsFor artery.now (base timing.now) }
+    requires link { HasLink artery.now link }
     ensures { IfOk result (λ shapes. shapes.items ≡ link_pieces frame artery.now timing.now link) }
 {
     let mut shapes = pieces(alloc, frame, artery, timing, Dir::Outbound, link)?;
@@ -360,7 +355,7 @@ pub fn all_pieces(
     timing: &Timing,
 ) -> Result<Vec<Shape>, Memory>
     requires frame { IsFrame frame }
-    requires shape { length timing.now.patterns ≡ count artery.now }
+    requires shape { IsFor artery.now (base timing.now) }
     ensures { IfOk result (λ shapes. shapes.items ≡ all_pieces frame artery.now timing.now) }
 {
     let mut shapes = Vec::new(alloc);

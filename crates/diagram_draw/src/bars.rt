@@ -1,10 +1,11 @@
 //! The bars at the signals: reds, and where the bands cross.
 
-ghost use Rattle.std.specs.Prelude.{◌≡◌, ◌+◌, ◌*◌, ◌<◌, ◌≤◌, ◌^◌, IfOk, pos, ◌+ℤ◌, length, unsigned_abs};
-ghost use Rattle.progression.specs.{Street.{count}, TimingRecord.{cycle, band}};
+ghost use Rattle.std.specs.Prelude.{◌≡◌, ◌+◌, ◌*◌, ◌<◌, ◌≤◌, ◌^◌, IfOk, pos, ◌+ℤ◌, unsigned_abs};
+ghost use Rattle.progression.specs.{Street.{count, HasSignal}, BaseRecord.{cycle}, TimingRecord.{band, base}};
 ghost use Rattle.diagram_draw.specs.Frames.{IsFrame};
 ghost use Rattle.diagram_draw.specs.Bars.{bar_top, block, some_blocks, blocks, first_red, first_window, common_ticks, turn_ticks, common_wait, turn_wait};
 ghost use Rattle.diagram_draw.specs.Bars.{window_paint, ground, windows, common_reds, turn_reds, bar, signal_bars, all_bars, window_part, common_part, turn_part};
+ghost use Rattle.time_space.specs.Timing.{IsFor};
 
 use crate::frame::{
     BAR_HEIGHT, Frame, above, earlier, later, level, moment_after, plot_right, x_at,
@@ -34,8 +35,7 @@ struct BarPart {
 /// Where a direction's bar begins.
 pub fn bar_top(frame: Frame, artery: &Artery, dir: Dir, signal: u32) -> i128
     requires frame { IsFrame frame }
-    requires first { 1 ≤ signal }
-    requires last { signal ≤ count artery.now }
+    requires signal { HasSignal artery.now signal }
     ensures value { result ≡ bar_top frame artery.now dir signal }
     ensures small { unsigned_abs result < 30000 }
 {
@@ -101,9 +101,8 @@ fn blocks(alloc: Global, frame: Frame, part: BarPart) -> Result<Vec<Shape>, Allo
 /// Where a direction's red begins in the cycle before the first that is shown.
 fn first_red(frame: Frame, artery: &Artery, timing: &Timing, dir: Dir, signal: u32) -> i128
     requires frame { IsFrame frame }
-    requires shape { length timing.now.patterns ≡ count artery.now }
-    requires first { 1 ≤ signal }
-    requires last { signal ≤ count artery.now }
+    requires shape { IsFor artery.now (base timing.now) }
+    requires signal { HasSignal artery.now signal }
     ensures value { result ≡ first_red frame artery.now timing.now dir signal }
     ensures small { unsigned_abs result < 2 ^ 98 }
 {
@@ -114,9 +113,8 @@ fn first_red(frame: Frame, artery: &Artery, timing: &Timing, dir: Dir, signal: u
 /// Where a direction's band begins at a signal in the cycle before the first that is shown.
 fn first_window(frame: Frame, artery: &Artery, timing: &Timing, dir: Dir, signal: u32) -> i128
     requires frame { IsFrame frame }
-    requires shape { length timing.now.patterns ≡ count artery.now }
-    requires first { 1 ≤ signal }
-    requires last { signal ≤ count artery.now }
+    requires shape { IsFor artery.now (base timing.now) }
+    requires signal { HasSignal artery.now signal }
     ensures value { result ≡ first_window frame artery.now timing.now dir signal }
     ensures small { unsigned_abs result < 2 ^ 98 }
 {
@@ -126,8 +124,7 @@ fn first_window(frame: Frame, artery: &Artery, timing: &Timing, dir: Dir, signal
 
 /// The common red, in ticks.
 fn common_ticks(artery: &Artery, timing: &Timing, signal: u32) -> u128
-    requires first { 1 ≤ signal }
-    requires last { signal ≤ count artery.now }
+    requires signal { HasSignal artery.now signal }
     ensures value { result ≡ common_ticks artery.now timing.now signal }
     ensures small { result < 2 ^ 92 }
 {
@@ -136,8 +133,7 @@ fn common_ticks(artery: &Artery, timing: &Timing, signal: u32) -> u128
 
 /// The rest of a direction's red, in ticks.
 fn turn_ticks(artery: &Artery, timing: &Timing, dir: Dir, signal: u32) -> u128
-    requires first { 1 ≤ signal }
-    requires last { signal ≤ count artery.now }
+    requires signal { HasSignal artery.now signal }
     ensures value { result ≡ turn_ticks artery.now timing.now dir signal }
     ensures small { result < 2 ^ 92 }
 {
@@ -146,9 +142,8 @@ fn turn_ticks(artery: &Artery, timing: &Timing, dir: Dir, signal: u32) -> u128
 
 /// How long after the start of a direction's red the common red begins.
 fn common_wait(artery: &Artery, timing: &Timing, dir: Dir, signal: u32) -> u128
-    requires shape { length timing.now.patterns ≡ count artery.now }
-    requires first { 1 ≤ signal }
-    requires last { signal ≤ count artery.now }
+    requires shape { IsFor artery.now (base timing.now) }
+    requires signal { HasSignal artery.now signal }
     ensures value { result ≡ common_wait artery.now timing.now dir signal }
     ensures small { result < 2 ^ 92 }
 {
@@ -161,9 +156,8 @@ fn common_wait(artery: &Artery, timing: &Timing, dir: Dir, signal: u32) -> u128
 
 /// How long after the start of a direction's red the rest of it begins.
 fn turn_wait(artery: &Artery, timing: &Timing, dir: Dir, signal: u32) -> u128
-    requires shape { length timing.now.patterns ≡ count artery.now }
-    requires first { 1 ≤ signal }
-    requires last { signal ≤ count artery.now }
+    requires shape { IsFor artery.now (base timing.now) }
+    requires signal { HasSignal artery.now signal }
     ensures value { result ≡ turn_wait artery.now timing.now dir signal }
     ensures small { result < 2 ^ 92 }
 {
@@ -186,8 +180,7 @@ fn window_paint(dir: Dir) -> Paint
 /// The ground of a direction's bar.
 fn ground(frame: Frame, artery: &Artery, dir: Dir, signal: u32) -> Shape
     requires frame { IsFrame frame }
-    requires first { 1 ≤ signal }
-    requires last { signal ≤ count artery.now }
+    requires signal { HasSignal artery.now signal }
     ensures { result ≡ ground frame artery.now dir signal }
 {
     let top = bar_top(frame, artery, dir, signal);
@@ -213,9 +206,8 @@ pub fn after(ticks: i128, wait: u128) -> i128
 /// Where a direction's common red begins in the cycle before the first that is shown.
 fn first_common(frame: Frame, artery: &Artery, timing: &Timing, dir: Dir, signal: u32) -> i128
     requires frame { IsFrame frame }
-    requires shape { length timing.now.patterns ≡ count artery.now }
-    requires first { 1 ≤ signal }
-    requires last { signal ≤ count artery.now }
+    requires shape { IsFor artery.now (base timing.now) }
+    requires signal { HasSignal artery.now signal }
     ensures value { result ≡ (common_part frame artery.now timing.now dir signal).begin }
     ensures small { unsigned_abs result < 2 ^ 99 }
 {
@@ -226,9 +218,8 @@ fn first_common(frame: Frame, artery: &Artery, timing: &Timing, dir: Dir, signal
 /// Where the rest of its red begins in that cycle.
 fn first_turn(frame: Frame, artery: &Artery, timing: &Timing, dir: Dir, signal: u32) -> i128
     requires frame { IsFrame frame }
-    requires shape { length timing.now.patterns ≡ count artery.now }
-    requires first { 1 ≤ signal }
-    requires last { signal ≤ count artery.now }
+    requires shape { IsFor artery.now (base timing.now) }
+    requires signal { HasSignal artery.now signal }
     ensures value { result ≡ (turn_part frame artery.now timing.now dir signal).begin }
     ensures small { unsigned_abs result < 2 ^ 99 }
 {
@@ -246,9 +237,8 @@ fn some_windows(
     signal: u32,
 ) -> Result<Vec<Shape>, AllocError>
     requires frame { IsFrame frame }
-    requires shape { length timing.now.patterns ≡ count artery.now }
-    requires first { 1 ≤ signal }
-    requires last { signal ≤ count artery.now }
+    requires shape { IsFor artery.now (base timing.now) }
+    requires signal { HasSignal artery.now signal }
     ensures { IfOk result (λ shapes. shapes.items ≡ blocks frame (window_part frame artery.now timing.now dir signal)) }
 {
     let top = bar_top(frame, artery, dir, signal);
@@ -271,9 +261,8 @@ fn windows(
     signal: u32,
 ) -> Result<Vec<Shape>, AllocError>
     requires frame { IsFrame frame }
-    requires shape { length timing.now.patterns ≡ count artery.now }
-    requires first { 1 ≤ signal }
-    requires last { signal ≤ count artery.now }
+    requires shape { IsFor artery.now (base timing.now) }
+    requires signal { HasSignal artery.now signal }
     ensures { IfOk result (λ shapes. shapes.items ≡ windows frame artery.now timing.now dir signal) }
 {
     if !has_band(artery, timing, dir) {
@@ -292,9 +281,8 @@ fn common_reds(
     signal: u32,
 ) -> Result<Vec<Shape>, AllocError>
     requires frame { IsFrame frame }
-    requires shape { length timing.now.patterns ≡ count artery.now }
-    requires first { 1 ≤ signal }
-    requires last { signal ≤ count artery.now }
+    requires shape { IsFor artery.now (base timing.now) }
+    requires signal { HasSignal artery.now signal }
     ensures { IfOk result (λ shapes. shapes.items ≡ common_reds frame artery.now timing.now dir signal) }
 {
     let top = bar_top(frame, artery, dir, signal);
@@ -317,9 +305,8 @@ fn some_turn_reds(
     signal: u32,
 ) -> Result<Vec<Shape>, AllocError>
     requires frame { IsFrame frame }
-    requires shape { length timing.now.patterns ≡ count artery.now }
-    requires first { 1 ≤ signal }
-    requires last { signal ≤ count artery.now }
+    requires shape { IsFor artery.now (base timing.now) }
+    requires signal { HasSignal artery.now signal }
     ensures { IfOk result (λ shapes. shapes.items ≡ blocks frame (turn_part frame artery.now timing.now dir signal)) }
 {
     let top = bar_top(frame, artery, dir, signal);
@@ -342,9 +329,8 @@ fn turn_reds(
     signal: u32,
 ) -> Result<Vec<Shape>, AllocError>
     requires frame { IsFrame frame }
-    requires shape { length timing.now.patterns ≡ count artery.now }
-    requires first { 1 ≤ signal }
-    requires last { signal ≤ count artery.now }
+    requires shape { IsFor artery.now (base timing.now) }
+    requires signal { HasSignal artery.now signal }
     ensures { IfOk result (λ shapes. shapes.items ≡ turn_reds frame artery.now timing.now dir signal) }
 {
     if artery.left_against(dir, signal) == 0 {
@@ -363,9 +349,8 @@ fn bar(
     signal: u32,
 ) -> Result<Vec<Shape>, Memory>
     requires frame { IsFrame frame }
-    requires shape { length timing.now.patterns ≡ count artery.now }
-    requires first { 1 ≤ signal }
-    requires last { signal ≤ count artery.now }
+    requires shape { IsFor artery.now (base timing.now) }
+    requires signal { HasSignal artery.now signal }
     ensures { IfOk result (λ shapes. shapes.items ≡ bar frame artery.now timing.now dir signal) }
 {
     let windows = windows(alloc, frame, artery, timing, dir, signal)?;
@@ -388,9 +373,8 @@ fn signal_bars(
     signal: u32,
 ) -> Result<Vec<Shape>, Memory>
     requires frame { IsFrame frame }
-    requires shape { length timing.now.patterns ≡ count artery.now }
-    requires first { 1 ≤ signal }
-    requires last { signal ≤ count artery.now }
+    requires shape { IsFor artery.now (base timing.now) }
+    requires signal { HasSignal artery.now signal }
     ensures { IfOk result (λ shapes. shapes.items ≡ signal_bars frame artery.now timing.now signal) }
 {
     let mut shapes = bar(alloc, frame, artery, timing, Dir::Outbound, signal)?;
@@ -407,7 +391,7 @@ pub fn all_bars(
     timing: &Timing,
 ) -> Result<Vec<Shape>, Memory>
     requires frame { IsFrame frame }
-    requires shape { length timing.now.patterns ≡ count artery.now }
+    requires shape { IsFor artery.now (base timing.now) }
     ensures { IfOk result (λ shapes. shapes.items ≡ all_bars frame artery.now timing.now) }
 {
     let mut shapes = Vec::new(alloc);

@@ -1,7 +1,7 @@
 //! The words of a drawing.
 
 ghost use Rattle.std.specs.{Prelude.{◌≡◌, ◌&&◌, ◌+◌, ◌*◌, ◌/◌, ◌%◌, ◌<◌, ◌≤◌, ◌^◌, ◌++◌, codes, OnOk, option_map, pos, ◌≤ℤ◌, length}, Fmt.{decimal}};
-ghost use Rattle.progression.specs.{Street.{count}, Best.{weighted_band}};
+ghost use Rattle.progression.specs.{Street.{count, HasLink, HasSignal}, Best.{weighted_band}, TimingRecord.{base}};
 ghost use Rattle.progression.specs.declared.parts.Dir.TheVariants.{Outbound, Inbound};
 ghost use Rattle.timing_measures.specs.Rounding.{nearest};
 ghost use Rattle.timing_words.specs.{Numbers.{seconds_text}, Ways.{dir_word, has_band}};
@@ -16,6 +16,7 @@ ghost use Rattle.diagram_draw.specs.Captions.{cycle_number, cycle_numbers, secon
 ghost use Rattle.diagram_draw.specs.Captions.{signal_row, signal_rows, link_level, unlike_lengths, lengths_differ, lengths_text, link_speed_text, link_row, link_rows};
 ghost use Rattle.diagram_draw.specs.Captions.{mark, marks_at, signal_marks, marks, red_words, band_words, axis_words, bar_words, clearances, note_words, queue_notes};
 ghost use Rattle.diagram_draw.specs.Captions.{notes, above, beside, below, captions};
+ghost use Rattle.time_space.specs.Timing.{IsFor};
 
 use crate::axes::{cycle_x, second_at, second_x, steps_shown};
 use crate::escape::push_escaped;
@@ -180,7 +181,7 @@ fn push_band_facts(
     timing: &Timing,
     dir: Dir,
 ) -> Result<(), Memory>
-    requires { length timing.now.patterns ≡ count artery.now }
+    requires { IsFor artery.now (base timing.now) }
     ensures { OnOk result (out.new.items ≡ out.old.items ++ band_facts artery.now timing.now dir) }
 {
     if has_band(artery, timing, dir) {
@@ -202,7 +203,7 @@ fn push_cycle_facts(out: &mut Vec<u8>, artery: &Artery, timing: &Timing) -> Resu
 
 /// Whether both directions have a band.
 fn have_bands(artery: &Artery, timing: &Timing) -> bool
-    requires { length timing.now.patterns ≡ count artery.now }
+    requires { IsFor artery.now (base timing.now) }
     ensures { result ≡ (has_band artery.now timing.now Dir.Outbound && has_band artery.now timing.now Dir.Inbound) }
 {
     has_band(artery, timing, Dir::Outbound) && has_band(artery, timing, Dir::Inbound)
@@ -219,7 +220,7 @@ fn push_weighted(out: &mut Vec<u8>, artery: &Artery, timing: &Timing) -> Result<
 /// Writes the weighted band, where both directions have a band.
 #[tactic(auto, unfolding(crate::specs::Captions::weighted_facts))]
 fn push_weighted_facts(out: &mut Vec<u8>, artery: &Artery, timing: &Timing) -> Result<(), Memory>
-    requires { length timing.now.patterns ≡ count artery.now }
+    requires { IsFor artery.now (base timing.now) }
     ensures { OnOk result (out.new.items ≡ out.old.items ++ weighted_facts artery.now timing.now) }
 {
     if have_bands(artery, timing) {
@@ -232,7 +233,7 @@ fn push_weighted_facts(out: &mut Vec<u8>, artery: &Artery, timing: &Timing) -> R
 /// Writes the cycle and the bands.
 #[tactic(auto, unfolding(crate::specs::Captions::facts_text))]
 pub fn push_facts(out: &mut Vec<u8>, artery: &Artery, timing: &Timing) -> Result<(), Memory>
-    requires { length timing.now.patterns ≡ count artery.now }
+    requires { IsFor artery.now (base timing.now) }
     ensures { OnOk result (out.new.items ≡ out.old.items ++ facts_text artery.now timing.now) }
 {
     push_cycle_facts(out, artery, timing)?;
@@ -377,7 +378,7 @@ fn push_facts_head(
     timing: &Timing,
     level: u32,
 ) -> Result<(), Memory>
-    requires { length timing.now.patterns ≡ count artery.now }
+    requires { IsFor artery.now (base timing.now) }
     ensures { OnOk result (out.new.items ≡ out.old.items ++ sized_words_text Facts 165 (pos 220) (pos level) (facts_text artery.now timing.now)) }
 {
     push_size_opening(out, Letter::Facts, FACTS_SIZE, 220, level)?;
@@ -395,7 +396,7 @@ pub fn push_heads(
     title: Option<&str>,
 ) -> Result<(), Memory>
     requires frame { IsFrame frame }
-    requires shape { length timing.now.patterns ≡ count artery.now }
+    requires shape { IsFor artery.now (base timing.now) }
     ensures { OnOk result (out.new.items ≡ out.old.items ++ sizeds_text (heads frame artery.now timing.now (option_map (λ t. t.now) title.entry))) }
 {
     push_name_head(out, frame, artery)?;
@@ -565,8 +566,7 @@ fn push_second_numbers(out: &mut Vec<u8>, frame: Frame, timing: &Timing) -> Resu
 /// Where the words of a signal stand.
 fn row_level(frame: Frame, artery: &Artery, signal: u32) -> u32
     requires frame { IsFrame frame }
-    requires first { 1 ≤ signal }
-    requires last { signal ≤ count artery.now }
+    requires signal { HasSignal artery.now signal }
     ensures { pos result ≡ row_level frame artery.now signal }
 {
     level(frame, artery, signal) + 50
@@ -575,8 +575,7 @@ fn row_level(frame: Frame, artery: &Artery, signal: u32) -> u32
 /// Writes the name of a signal.
 fn push_name(out: &mut Vec<u8>, frame: Frame, artery: &Artery, signal: u32) -> Result<(), Memory>
     requires frame { IsFrame frame }
-    requires first { 1 ≤ signal }
-    requires last { signal ≤ count artery.now }
+    requires signal { HasSignal artery.now signal }
     ensures { OnOk result (out.new.items ≡ out.old.items ++ sized_text (name_caption frame artery.now signal)) }
 {
     let name = signal_name(artery, signal);
@@ -622,9 +621,8 @@ fn turn_word(turn: u32, early: bool) -> &'static str
 
 /// How the left turn goes that is against a direction.
 fn turn_text(artery: &Artery, timing: &Timing, dir: Dir, signal: u32) -> &'static str
-    requires shape { length timing.now.patterns ≡ count artery.now }
-    requires first { 1 ≤ signal }
-    requires last { signal ≤ count artery.now }
+    requires shape { IsFor artery.now (base timing.now) }
+    requires signal { HasSignal artery.now signal }
     ensures { result.now ≡ turn_text artery.now timing.now dir signal }
 {
     turn_word(
@@ -640,9 +638,8 @@ fn push_turns(
     timing: &Timing,
     signal: u32,
 ) -> Result<(), Memory>
-    requires shape { length timing.now.patterns ≡ count artery.now }
-    requires first { 1 ≤ signal }
-    requires last { signal ≤ count artery.now }
+    requires shape { IsFor artery.now (base timing.now) }
+    requires signal { HasSignal artery.now signal }
     ensures { OnOk result (out.new.items ≡ out.old.items ++ (turn_text artery.now timing.now Inbound signal ++ (codes "/" ++ turn_text artery.now timing.now Outbound signal))) }
 {
     push_text(out, turn_text(artery, timing, Dir::Inbound, signal))?;
@@ -657,9 +654,8 @@ fn push_pattern(
     timing: &Timing,
     signal: u32,
 ) -> Result<(), Memory>
-    requires shape { length timing.now.patterns ≡ count artery.now }
-    requires first { 1 ≤ signal }
-    requires last { signal ≤ count artery.now }
+    requires shape { IsFor artery.now (base timing.now) }
+    requires signal { HasSignal artery.now signal }
     ensures { OnOk result (out.new.items ≡ out.old.items ++ pattern_text artery.now timing.now signal) }
 {
     let inbound = artery.left_against(Dir::Outbound, signal);
@@ -680,9 +676,8 @@ fn push_pattern_words(
     timing: &Timing,
     signal: u32,
 ) -> Result<(), Memory>
-    requires shape { length timing.now.patterns ≡ count artery.now }
-    requires first { 1 ≤ signal }
-    requires last { signal ≤ count artery.now }
+    requires shape { IsFor artery.now (base timing.now) }
+    requires signal { HasSignal artery.now signal }
     ensures { OnOk result (out.new.items ≡ out.old.items ++ words_text Number (pos x) (pos y) (pattern_text artery.now timing.now signal)) }
 {
     push_opening(out, Letter::Number, x, y)?;
@@ -719,9 +714,8 @@ fn push_signal_row(
     signal: u32,
 ) -> Result<(), Memory>
     requires frame { IsFrame frame }
-    requires shape { length timing.now.patterns ≡ count artery.now }
-    requires first { 1 ≤ signal }
-    requires last { signal ≤ count artery.now }
+    requires shape { IsFor artery.now (base timing.now) }
+    requires signal { HasSignal artery.now signal }
     ensures { OnOk result (out.new.items ≡ out.old.items ++ captions_text (signal_row frame artery.now timing.now signal)) }
 {
     let y = row_level(frame, artery, signal);
@@ -738,7 +732,7 @@ fn push_signal_rows(
     timing: &Timing,
 ) -> Result<(), Memory>
     requires frame { IsFrame frame }
-    requires shape { length timing.now.patterns ≡ count artery.now }
+    requires shape { IsFor artery.now (base timing.now) }
     ensures { OnOk result (out.new.items ≡ out.old.items ++ captions_text (signal_rows frame artery.now timing.now)) }
 {
     for signal in 1..artery.count() + 1 {
@@ -750,8 +744,7 @@ fn push_signal_rows(
 /// Where the words of a link stand.
 fn link_level(frame: Frame, artery: &Artery, link: u32) -> u32
     requires frame { IsFrame frame }
-    requires first { 1 ≤ link }
-    requires last { link < count artery.now }
+    requires link { HasLink artery.now link }
     ensures { pos result ≡ link_level frame artery.now link }
 {
     // there are few signals
@@ -796,9 +789,8 @@ fn push_link_speed(
     dir: Dir,
     link: u32,
 ) -> Result<(), Memory>
-    requires shape { length timing.now.patterns ≡ count artery.now }
-    requires first { 1 ≤ link }
-    requires last { link < count artery.now }
+    requires shape { IsFor artery.now (base timing.now) }
+    requires link { HasLink artery.now link }
     ensures { OnOk result (out.new.items ≡ out.old.items ++ link_speed_text artery.now timing.now dir link) }
 {
     match some_speed(artery, timing, dir, link) {
@@ -818,9 +810,8 @@ fn push_speed_words(
     dir: Dir,
     link: u32,
 ) -> Result<(), Memory>
-    requires shape { length timing.now.patterns ≡ count artery.now }
-    requires first { 1 ≤ link }
-    requires last { link < count artery.now }
+    requires shape { IsFor artery.now (base timing.now) }
+    requires link { HasLink artery.now link }
     ensures { OnOk result (out.new.items ≡ out.old.items ++ words_text Number (pos x) (pos y) (link_speed_text artery.now timing.now dir link)) }
 {
     push_opening(out, Letter::Number, x, y)?;
@@ -838,9 +829,8 @@ fn push_link_row(
     link: u32,
 ) -> Result<(), Memory>
     requires frame { IsFrame frame }
-    requires shape { length timing.now.patterns ≡ count artery.now }
-    requires first { 1 ≤ link }
-    requires last { link < count artery.now }
+    requires shape { IsFor artery.now (base timing.now) }
+    requires link { HasLink artery.now link }
     ensures { OnOk result (out.new.items ≡ out.old.items ++ captions_text (link_row frame artery.now timing.now link)) }
 {
     let y = link_level(frame, artery, link);
@@ -861,7 +851,7 @@ fn push_link_rows(
     timing: &Timing,
 ) -> Result<(), Memory>
     requires frame { IsFrame frame }
-    requires shape { length timing.now.patterns ≡ count artery.now }
+    requires shape { IsFor artery.now (base timing.now) }
     ensures { OnOk result (out.new.items ≡ out.old.items ++ captions_text (link_rows frame artery.now timing.now)) }
 {
     for link in 1..artery.count() {
@@ -995,9 +985,8 @@ fn push_mark(
     signal: u32,
 ) -> Result<(), Memory>
     requires frame { IsFrame frame }
-    requires shape { length timing.now.patterns ≡ count artery.now }
-    requires first { 1 ≤ signal }
-    requires last { signal ≤ count artery.now }
+    requires shape { IsFor artery.now (base timing.now) }
+    requires signal { HasSignal artery.now signal }
     ensures { OnOk result (out.new.items ≡ out.old.items ++ caption_text (mark frame artery.now timing.now dir signal)) }
 {
     let x = step_begin(frame, artery, timing, dir, signal);
@@ -1017,9 +1006,8 @@ fn push_marks_at(
     signal: u32,
 ) -> Result<(), Memory>
     requires frame { IsFrame frame }
-    requires shape { length timing.now.patterns ≡ count artery.now }
-    requires first { 1 ≤ signal }
-    requires last { signal ≤ count artery.now }
+    requires shape { IsFor artery.now (base timing.now) }
+    requires signal { HasSignal artery.now signal }
     ensures { OnOk result (out.new.items ≡ out.old.items ++ captions_text (marks_at frame artery.now timing.now dir signal)) }
 {
     if !has_step(artery, timing, dir, signal) {
@@ -1038,9 +1026,8 @@ fn push_signal_marks(
     signal: u32,
 ) -> Result<(), Memory>
     requires frame { IsFrame frame }
-    requires shape { length timing.now.patterns ≡ count artery.now }
-    requires first { 1 ≤ signal }
-    requires last { signal ≤ count artery.now }
+    requires shape { IsFor artery.now (base timing.now) }
+    requires signal { HasSignal artery.now signal }
     ensures { OnOk result (out.new.items ≡ out.old.items ++ captions_text (signal_marks frame artery.now timing.now signal)) }
 {
     push_marks_at(out, frame, artery, timing, Dir::Outbound, signal)?;
@@ -1055,7 +1042,7 @@ fn push_marks(
     timing: &Timing,
 ) -> Result<(), Memory>
     requires frame { IsFrame frame }
-    requires shape { length timing.now.patterns ≡ count artery.now }
+    requires shape { IsFor artery.now (base timing.now) }
     ensures { OnOk result (out.new.items ≡ out.old.items ++ captions_text (marks frame artery.now timing.now)) }
 {
     for signal in 1..artery.count() + 1 {
@@ -1083,7 +1070,7 @@ fn push_beside(
     timing: &Timing,
 ) -> Result<(), Memory>
     requires frame { IsFrame frame }
-    requires shape { length timing.now.patterns ≡ count artery.now }
+    requires shape { IsFor artery.now (base timing.now) }
     ensures { OnOk result (out.new.items ≡ out.old.items ++ captions_text (beside frame artery.now timing.now)) }
 {
     push_signal_rows(out, frame, artery, timing)?;
@@ -1115,7 +1102,7 @@ pub fn push_captions(
     timing: &Timing,
 ) -> Result<(), Memory>
     requires frame { IsFrame frame }
-    requires shape { length timing.now.patterns ≡ count artery.now }
+    requires shape { IsFor artery.now (base timing.now) }
     ensures { OnOk result (out.new.items ≡ out.old.items ++ captions_text (captions frame artery.now timing.now)) }
 {
     push_above(out, frame, artery)?;

@@ -1,9 +1,10 @@
 //! The measures of a drawing: where a moment and a signal stand.
 
 ghost use Rattle.std.specs.{Prelude.{◌≡◌, ◌+◌, ◌-◌, ◌*◌, ◌<◌, ◌≤◌, ◌^◌, pos, ◌*ℤ◌, ◌+ℤ◌, ◌-ℤ◌, length, unsigned_abs}, Int.{int_div_euclid}};
-ghost use Rattle.progression.specs.{Street.{count}, TimingRecord.{cycle}};
+ghost use Rattle.progression.specs.{Street.{count, HasSignal}, BaseRecord.{cycle}, TimingRecord.{base}};
 ghost use Rattle.diagram_draw.specs.Frames.{trip, reach, longest_reach, cycles_for, far, shortest, rise_for, span_for, widest_name, name_room, frame_of, plot_width, plot_right, x_at, level, plot_bottom, earlier, later, IsFrame};
 ghost use Rattle.diagram_draw.specs.Frames.{page_width, page_height, shown_width, shown_height};
+ghost use Rattle.time_space.specs.Timing.{IsFor};
 
 use crate::width::{NAME_SIZE, text_width};
 use artery_model::{Artery, Dir};
@@ -70,7 +71,7 @@ fn trip(timing: &Timing, dir: Dir, links: u32) -> u128
 
 /// How many ticks at most lie between a band's first tick anywhere and its last.
 fn reach(artery: &Artery, timing: &Timing, dir: Dir) -> u128
-    requires { length timing.now.patterns ≡ count artery.now }
+    requires { IsFor artery.now (base timing.now) }
     ensures value { result ≡ reach artery.now timing.now dir }
     ensures small { result < 2 ^ 86 }
 {
@@ -79,7 +80,7 @@ fn reach(artery: &Artery, timing: &Timing, dir: Dir) -> u128
 }
 
 fn longest_reach(artery: &Artery, timing: &Timing) -> u128
-    requires { length timing.now.patterns ≡ count artery.now }
+    requires { IsFor artery.now (base timing.now) }
     ensures value { result ≡ longest_reach artery.now timing.now }
     ensures small { result < 2 ^ 86 }
 {
@@ -181,7 +182,7 @@ fn name_room(artery: &Artery) -> u32
 
 /// The frame of a drawing.
 pub fn frame_of(artery: &Artery, timing: &Timing) -> Frame
-    requires { length timing.now.patterns ≡ count artery.now }
+    requires { IsFor artery.now (base timing.now) }
     ensures value { result ≡ frame_of artery.now timing.now }
     ensures range { IsFrame result }
 {
@@ -259,8 +260,7 @@ pub fn x_at(frame: Frame, ticks: i128) -> i128
 /// The level of a signal.
 pub fn level(frame: Frame, artery: &Artery, signal: u32) -> u32
     requires frame { IsFrame frame }
-    requires first { 1 ≤ signal }
-    requires last { signal ≤ count artery.now }
+    requires signal { HasSignal artery.now signal }
     ensures value { result ≡ level frame artery.now signal }
     ensures most { result ≤ 21900 }
 {

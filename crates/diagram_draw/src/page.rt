@@ -1,12 +1,14 @@
 //! The whole drawing, and its text.
 
-ghost use Rattle.std.specs.{Prelude.{◌≡◌, ◌+◌, ◌/◌, ◌%◌, ◌≤◌, ◌++◌, codes, IfOk, OnOk, option_map, pos, length}, Fmt.{decimal}};
-ghost use Rattle.progression.specs.Street.{count};
+ghost use Rattle.std.specs.{Prelude.{◌≡◌, ◌+◌, ◌/◌, ◌%◌, ◌≤◌, ◌++◌, codes, IfOk, OnOk, option_map, pos}, Fmt.{decimal}};
+ghost use Rattle.progression.specs.Street.{count, HasSignal};
 ghost use Rattle.diagram_draw.specs.{declared.shape.Shape.TheVariants.{Rect}, Shapes.{shapes_text}, Frames.{IsFrame}, Axes.{back}, Steps.{steps}};
 ghost use Rattle.timing_words.specs.Numbers.{tenths_text};
 ghost use Rattle.diagram_draw.specs.{Captions.{title_text}, Pages.{head_text, body_text, tail_text, svg_text}};
 ghost use Rattle.diagram_draw.specs.Pages.{key_bar, key_piece, key_shapes, signal_about, signals_about, about_text, field_shapes, drawn, drawing};
 ghost use Rattle.diagram_draw.specs.Pages.{plot_clip, paper_text, size_text, box_text, svg_opening, title_part, about_part, opening_text, definitions_text, field_part};
+ghost use Rattle.time_space.specs.Timing.{IsFor};
+ghost use Rattle.progression.specs.TimingRecord.{base};
 
 use crate::axes::back;
 use crate::bands::all_pieces;
@@ -119,9 +121,8 @@ fn push_signal_about(
     timing: &Timing,
     signal: u32,
 ) -> Result<(), Memory>
-    requires shape { length timing.now.patterns ≡ count artery.now }
-    requires first { 1 ≤ signal }
-    requires last { signal ≤ count artery.now }
+    requires shape { IsFor artery.now (base timing.now) }
+    requires signal { HasSignal artery.now signal }
     ensures { OnOk result (out.new.items ≡ out.old.items ++ signal_about artery.now timing.now signal) }
 {
     push_signal_opening(out, signal)?;
@@ -133,7 +134,7 @@ fn push_signal_about(
 
 /// Writes the same of all signals.
 fn push_signals_about(out: &mut Vec<u8>, artery: &Artery, timing: &Timing) -> Result<(), Memory>
-    requires { length timing.now.patterns ≡ count artery.now }
+    requires { IsFor artery.now (base timing.now) }
     ensures { OnOk result (out.new.items ≡ out.old.items ++ signals_about artery.now timing.now) }
 {
     for signal in 1..artery.count() + 1 {
@@ -145,7 +146,7 @@ fn push_signals_about(out: &mut Vec<u8>, artery: &Artery, timing: &Timing) -> Re
 /// Writes what is read aloud of the drawing.
 #[tactic(auto, unfolding(crate::specs::Pages::about_text))]
 fn push_about(out: &mut Vec<u8>, artery: &Artery, timing: &Timing) -> Result<(), Memory>
-    requires { length timing.now.patterns ≡ count artery.now }
+    requires { IsFor artery.now (base timing.now) }
     ensures { OnOk result (out.new.items ≡ out.old.items ++ about_text artery.now timing.now) }
 {
     push_facts(out, artery, timing)?;
@@ -160,7 +161,7 @@ fn field_shapes(
     timing: &Timing,
 ) -> Result<Vec<Shape>, Memory>
     requires frame { IsFrame frame }
-    requires shape { length timing.now.patterns ≡ count artery.now }
+    requires shape { IsFor artery.now (base timing.now) }
     ensures { IfOk result (λ shapes. shapes.items ≡ field_shapes frame artery.now timing.now) }
 {
     let mut shapes = all_pieces(alloc, frame, artery, timing)?;
@@ -253,7 +254,7 @@ fn push_title_part(out: &mut Vec<u8>, artery: &Artery, title: Option<&str>) -> R
 /// Writes what is read aloud, as a part of the document.
 #[tactic(auto, unfolding(crate::specs::Pages::about_part))]
 fn push_about_part(out: &mut Vec<u8>, artery: &Artery, timing: &Timing) -> Result<(), Memory>
-    requires { length timing.now.patterns ≡ count artery.now }
+    requires { IsFor artery.now (base timing.now) }
     ensures { OnOk result (out.new.items ≡ out.old.items ++ about_part (about_text artery.now timing.now)) }
 {
     push_text(out, "<desc id=\"desc\">")?;
@@ -270,7 +271,7 @@ fn push_opening(
     title: Option<&str>,
 ) -> Result<(), Memory>
     requires frame { IsFrame frame }
-    requires shape { length timing.now.patterns ≡ count artery.now }
+    requires shape { IsFor artery.now (base timing.now) }
     ensures { OnOk result (out.new.items ≡ out.old.items ++ opening_text (drawn frame artery.now timing.now (option_map (λ t. t.now) title.entry))) }
 {
     push_svg_opening(out, frame)?;
@@ -300,7 +301,7 @@ fn push_head(
     title: Option<&str>,
 ) -> Result<(), Memory>
     requires frame { IsFrame frame }
-    requires shape { length timing.now.patterns ≡ count artery.now }
+    requires shape { IsFor artery.now (base timing.now) }
     ensures { OnOk result (out.new.items ≡ out.old.items ++ head_text (drawn frame artery.now timing.now (option_map (λ t. t.now) title.entry))) }
 {
     push_opening(out, frame, artery, timing, title)?;
@@ -341,7 +342,7 @@ fn push_field(
     timing: &Timing,
 ) -> Result<(), Memory>
     requires frame { IsFrame frame }
-    requires shape { length timing.now.patterns ≡ count artery.now }
+    requires shape { IsFor artery.now (base timing.now) }
     ensures { OnOk result (out.new.items ≡ out.old.items ++ field_part (field_shapes frame artery.now timing.now)) }
 {
     let alloc = *out.allocator();
@@ -357,7 +358,7 @@ fn push_steps(
     timing: &Timing,
 ) -> Result<(), Memory>
     requires frame { IsFrame frame }
-    requires shape { length timing.now.patterns ≡ count artery.now }
+    requires shape { IsFor artery.now (base timing.now) }
     ensures { OnOk result (out.new.items ≡ out.old.items ++ field_part (steps frame artery.now timing.now)) }
 {
     let alloc = *out.allocator();
@@ -374,7 +375,7 @@ fn push_body(
     timing: &Timing,
 ) -> Result<(), Memory>
     requires frame { IsFrame frame }
-    requires shape { length timing.now.patterns ≡ count artery.now }
+    requires shape { IsFor artery.now (base timing.now) }
     ensures { OnOk result (out.new.items ≡ out.old.items ++ body_text (back frame artery.now timing.now) (field_shapes frame artery.now timing.now) (steps frame artery.now timing.now)) }
 {
     push_back(out, frame, artery, timing)?;
@@ -402,7 +403,7 @@ fn push_tail(
     title: Option<&str>,
 ) -> Result<(), Memory>
     requires frame { IsFrame frame }
-    requires shape { length timing.now.patterns ≡ count artery.now }
+    requires shape { IsFor artery.now (base timing.now) }
     ensures { OnOk result (out.new.items ≡ out.old.items ++ tail_text (drawn frame artery.now timing.now (option_map (λ t. t.now) title.entry))) }
 {
     push_keys(out, frame)?;
@@ -421,7 +422,7 @@ fn push_drawn(
     title: Option<&str>,
 ) -> Result<(), Memory>
     requires frame { IsFrame frame }
-    requires shape { length timing.now.patterns ≡ count artery.now }
+    requires shape { IsFor artery.now (base timing.now) }
     ensures { OnOk result (out.new.items ≡ out.old.items ++ svg_text (drawn frame artery.now timing.now (option_map (λ t. t.now) title.entry))) }
 {
     push_head(out, frame, artery, timing, title)?;
@@ -438,7 +439,7 @@ pub fn draw(
     timing: &Timing,
     title: Option<&str>,
 ) -> Result<Vec<u8>, Memory>
-    requires { length timing.now.patterns ≡ count artery.now }
+    requires { IsFor artery.now (base timing.now) }
     ensures { IfOk result (λ text. text.items ≡ svg_text (drawing artery.now timing.now (option_map (λ t. t.now) title.entry))) }
 {
     let frame = frame_of(artery, timing);

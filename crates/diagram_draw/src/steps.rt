@@ -1,9 +1,10 @@
 //! Where a line steps at a signal, so that a queue clears.
 
-ghost use Rattle.std.specs.Prelude.{◌≡◌, ◌+◌, ◌<◌, ◌≤◌, ◌^◌, IfOk, length, pos};
-ghost use Rattle.progression.specs.{Street.{count}, Lines.{stop}};
+ghost use Rattle.std.specs.Prelude.{◌≡◌, ◌+◌, ◌<◌, ◌≤◌, ◌^◌, IfOk, pos};
+ghost use Rattle.progression.specs.{Street.{count, HasSignal}, Lines.{stop}, TimingRecord.{base}};
 ghost use Rattle.diagram_draw.specs.Frames.{IsFrame};
 ghost use Rattle.diagram_draw.specs.Steps.{has_step, step_ticks, step_moment, step_begin, step_end, beside, step_level, mark_level, step_line, steps_at, signal_steps, steps};
+ghost use Rattle.time_space.specs.Timing.{IsFor};
 
 use crate::frame::{BAR_HEIGHT, Frame, level, x_at};
 use crate::paint::Paint;
@@ -27,9 +28,8 @@ fn first_stop(artery: &Artery, dir: Dir) -> u32
 
 /// Whether a direction's line steps at a signal.
 pub fn has_step(artery: &Artery, timing: &Timing, dir: Dir, signal: u32) -> bool
-    requires shape { length timing.now.patterns ≡ count artery.now }
-    requires first { 1 ≤ signal }
-    requires last { signal ≤ count artery.now }
+    requires shape { IsFor artery.now (base timing.now) }
+    requires signal { HasSignal artery.now signal }
     ensures { result ≡ has_step artery.now timing.now dir signal }
 {
     1 <= artery.clearance(dir, signal)
@@ -39,8 +39,7 @@ pub fn has_step(artery: &Artery, timing: &Timing, dir: Dir, signal: u32) -> bool
 
 /// How far it steps, in ticks.
 pub fn step_ticks(artery: &Artery, timing: &Timing, dir: Dir, signal: u32) -> u128
-    requires first { 1 ≤ signal }
-    requires last { signal ≤ count artery.now }
+    requires signal { HasSignal artery.now signal }
     ensures value { result ≡ step_ticks artery.now timing.now dir signal }
     ensures small { result < 2 ^ 92 }
 {
@@ -49,9 +48,8 @@ pub fn step_ticks(artery: &Artery, timing: &Timing, dir: Dir, signal: u32) -> u1
 
 /// When the band begins at the signal in the first cycle that is shown.
 fn step_moment(artery: &Artery, timing: &Timing, dir: Dir, signal: u32) -> u128
-    requires shape { length timing.now.patterns ≡ count artery.now }
-    requires first { 1 ≤ signal }
-    requires last { signal ≤ count artery.now }
+    requires shape { IsFor artery.now (base timing.now) }
+    requires signal { HasSignal artery.now signal }
     ensures value { result ≡ step_moment artery.now timing.now dir signal }
     ensures small { result < 2 ^ 92 }
 {
@@ -70,9 +68,8 @@ fn place(frame: Frame, ticks: u128) -> i128
 /// Where the band begins at the signal.
 pub fn step_begin(frame: Frame, artery: &Artery, timing: &Timing, dir: Dir, signal: u32) -> i128
     requires frame { IsFrame frame }
-    requires shape { length timing.now.patterns ≡ count artery.now }
-    requires first { 1 ≤ signal }
-    requires last { signal ≤ count artery.now }
+    requires shape { IsFor artery.now (base timing.now) }
+    requires signal { HasSignal artery.now signal }
     ensures { result ≡ step_begin frame artery.now timing.now dir signal }
 {
     place(frame, step_moment(artery, timing, dir, signal))
@@ -81,9 +78,8 @@ pub fn step_begin(frame: Frame, artery: &Artery, timing: &Timing, dir: Dir, sign
 /// And where it would begin with no step.
 fn step_end(frame: Frame, artery: &Artery, timing: &Timing, dir: Dir, signal: u32) -> i128
     requires frame { IsFrame frame }
-    requires shape { length timing.now.patterns ≡ count artery.now }
-    requires first { 1 ≤ signal }
-    requires last { signal ≤ count artery.now }
+    requires shape { IsFor artery.now (base timing.now) }
+    requires signal { HasSignal artery.now signal }
     ensures { result ≡ step_end frame artery.now timing.now dir signal }
 {
     let moment = step_moment(artery, timing, dir, signal);
@@ -106,8 +102,7 @@ fn beside(level: u32, dir: Dir, below: u32, above: u32) -> i128
 /// Where the line stands that shows a step: on the side of the bars from which the band comes.
 fn step_level(frame: Frame, artery: &Artery, dir: Dir, signal: u32) -> i128
     requires frame { IsFrame frame }
-    requires first { 1 ≤ signal }
-    requires last { signal ≤ count artery.now }
+    requires signal { HasSignal artery.now signal }
     ensures { result ≡ step_level frame artery.now dir signal }
 {
     beside(
@@ -121,8 +116,7 @@ fn step_level(frame: Frame, artery: &Artery, dir: Dir, signal: u32) -> i128
 /// Where the words beside it stand.
 pub fn mark_level(frame: Frame, artery: &Artery, dir: Dir, signal: u32) -> i128
     requires frame { IsFrame frame }
-    requires first { 1 ≤ signal }
-    requires last { signal ≤ count artery.now }
+    requires signal { HasSignal artery.now signal }
     ensures { result ≡ mark_level frame artery.now dir signal }
 {
     beside(
@@ -136,9 +130,8 @@ pub fn mark_level(frame: Frame, artery: &Artery, dir: Dir, signal: u32) -> i128
 /// The line that shows a step.
 fn step_line(frame: Frame, artery: &Artery, timing: &Timing, dir: Dir, signal: u32) -> Shape
     requires frame { IsFrame frame }
-    requires shape { length timing.now.patterns ≡ count artery.now }
-    requires first { 1 ≤ signal }
-    requires last { signal ≤ count artery.now }
+    requires shape { IsFor artery.now (base timing.now) }
+    requires signal { HasSignal artery.now signal }
     ensures { result ≡ step_line frame artery.now timing.now dir signal }
 {
     let level = step_level(frame, artery, dir, signal);
@@ -161,9 +154,8 @@ fn steps_at(
     signal: u32,
 ) -> Result<Vec<Shape>, AllocError>
     requires frame { IsFrame frame }
-    requires shape { length timing.now.patterns ≡ count artery.now }
-    requires first { 1 ≤ signal }
-    requires last { signal ≤ count artery.now }
+    requires shape { IsFor artery.now (base timing.now) }
+    requires signal { HasSignal artery.now signal }
     ensures { IfOk result (λ shapes. shapes.items ≡ steps_at frame artery.now timing.now dir signal) }
 {
     let mut shapes = Vec::new(alloc);
@@ -182,9 +174,8 @@ fn signal_steps(
     signal: u32,
 ) -> Result<Vec<Shape>, Memory>
     requires frame { IsFrame frame }
-    requires shape { length timing.now.patterns ≡ count artery.now }
-    requires first { 1 ≤ signal }
-    requires last { signal ≤ count artery.now }
+    requires shape { IsFor artery.now (base timing.now) }
+    requires signal { HasSignal artery.now signal }
     ensures { IfOk result (λ shapes. shapes.items ≡ signal_steps frame artery.now timing.now signal) }
 {
     let mut shapes = steps_at(alloc, frame, artery, timing, Dir::Outbound, signal)?;
@@ -201,7 +192,7 @@ pub fn steps(
     timing: &Timing,
 ) -> Result<Vec<Shape>, Memory>
     requires frame { IsFrame frame }
-    requires shape { length timing.now.patterns ≡ count artery.now }
+    requires shape { IsFor artery.now (base timing.now) }
     ensures { IfOk result (λ shapes. shapes.items ≡ steps frame artery.now timing.now) }
 {
     let mut shapes = Vec::new(alloc);

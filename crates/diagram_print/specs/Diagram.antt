@@ -3,7 +3,8 @@ use Rattle.std.specs.Prelude.{ℕ, ◌*◌, ◌/◌, pos, ℤ, nat_le, Bool, tru
 use Rattle.std.specs.List.{flat_map, range_with_len}
 use Rattle.std.specs.Fmt.{decimal}
 use Rattle.progression.specs.Street.{Street, count}
-use Rattle.progression.specs.TimingRecord.{TimingRecord, cycle, band}
+use Rattle.progression.specs.TimingRecord.{TimingRecord, base, band}
+use Rattle.progression.specs.BaseRecord.{cycle}
 use Rattle.progression.specs.Green.{since, is_green, red_start, red_ticks}
 use Rattle.progression.specs.Lines.{line_at}
 use Rattle.progression.specs.declared.parts.Dir.{Dir}
@@ -16,10 +17,10 @@ abbrev pub tick_at : ℕ → ℕ → ℕ
 tick_at cycle place = place * cycle / 60
 
 abbrev pub is_green_at : Street → TimingRecord → Dir → ℕ → ℤ → Bool
-is_green_at a t d i tick = is_green (cycle a t) (red_start a t d i) (red_ticks a t d i) tick
+is_green_at a t d i tick = is_green (cycle a (base t)) (red_start a (base t) d i) (red_ticks a (base t) d i) tick
 
 abbrev pub is_in_band : Street → TimingRecord → Dir → ℕ → ℤ → Bool
-is_in_band a t d i tick = nat_le (since (cycle a t) (line_at a t d i) tick) (band t d)
+is_in_band a t d i tick = nat_le (since (cycle a (base t)) (line_at a t d i) tick) (band t d)
 
 -- `>` is the byte 62, and `<` the byte 60
 abbrev pub arrow : Dir → ℕ
@@ -33,7 +34,7 @@ mark_of d true true = arrow d
 mark_of d true false = 61
 
 abbrev pub mark_at : Street → TimingRecord → Dir → ℕ → ℕ → ℕ
-mark_at a t d i place = let tick = pos (tick_at (cycle a t) place) in mark_of d (is_green_at a t d i tick) (is_in_band a t d i tick)
+mark_at a t d i place = let tick = pos (tick_at (cycle a (base t)) place) in mark_of d (is_green_at a t d i tick) (is_in_band a t d i tick)
 
 -- ---- the lines
 -- so many characters, from the first on

@@ -1,8 +1,10 @@
 //! The time-space diagram in text.
 
-ghost use Rattle.std.specs.Prelude.{◌≡◌, ◌++◌, ◌<◌, ◌≤◌, ◌^◌, pos, length, unsigned_abs, IfOk, OnOk};
-ghost use Rattle.progression.specs.Street.{count};
+ghost use Rattle.std.specs.Prelude.{◌≡◌, ◌++◌, ◌<◌, ◌≤◌, ◌^◌, pos, unsigned_abs, IfOk, OnOk};
+ghost use Rattle.progression.specs.Street.{count, HasSignal};
 ghost use Rattle.diagram_print.specs.Diagram.{tick_at, arrow, mark_at, marks, all_marks, diagram_line, signal_rows, diagram_lines};
+ghost use Rattle.time_space.specs.Timing.{IsFor};
+ghost use Rattle.progression.specs.TimingRecord.{base};
 
 use crate::measures::dir_name;
 use artery_model::{Artery, Dir};
@@ -36,9 +38,8 @@ fn arrow(dir: Dir) -> u8
 
 /// The character at a place: red, in the band, or green beside it.
 fn mark_at(artery: &Artery, timing: &Timing, dir: Dir, signal: u32, place: u32) -> u8
-    requires shape { length timing.now.patterns ≡ count artery.now }
-    requires first { 1 ≤ signal }
-    requires last { signal ≤ count artery.now }
+    requires shape { IsFor artery.now (base timing.now) }
+    requires signal { HasSignal artery.now signal }
     requires place { place < 60 }
     ensures { result ≡ mark_at artery.now timing.now dir signal place }
 {
@@ -61,9 +62,8 @@ fn push_marks(
     signal: u32,
     places: u32,
 ) -> Result<(), Memory>
-    requires shape { length timing.now.patterns ≡ count artery.now }
-    requires first { 1 ≤ signal }
-    requires last { signal ≤ count artery.now }
+    requires shape { IsFor artery.now (base timing.now) }
+    requires signal { HasSignal artery.now signal }
     requires places { places ≤ 60 }
     ensures { OnOk result (out.new.items ≡ out.old.items ++ marks artery.now timing.now dir signal places) }
 {
@@ -82,9 +82,8 @@ fn push_all_marks(
     dir: Dir,
     signal: u32,
 ) -> Result<(), Memory>
-    requires shape { length timing.now.patterns ≡ count artery.now }
-    requires first { 1 ≤ signal }
-    requires last { signal ≤ count artery.now }
+    requires shape { IsFor artery.now (base timing.now) }
+    requires signal { HasSignal artery.now signal }
     ensures { OnOk result (out.new.items ≡ out.old.items ++ all_marks artery.now timing.now dir signal) }
 {
     push_marks(out, artery, timing, dir, signal, PLACES)
@@ -98,9 +97,8 @@ fn push_diagram_line(
     dir: Dir,
     signal: u32,
 ) -> Result<(), Memory>
-    requires shape { length timing.now.patterns ≡ count artery.now }
-    requires first { 1 ≤ signal }
-    requires last { signal ≤ count artery.now }
+    requires shape { IsFor artery.now (base timing.now) }
+    requires signal { HasSignal artery.now signal }
     ensures { OnOk result (out.new.items ≡ out.old.items ++ diagram_line artery.now timing.now dir signal) }
 {
     push_number(out, signal as u128)?;
@@ -118,9 +116,8 @@ fn push_signal_rows(
     timing: &Timing,
     signal: u32,
 ) -> Result<(), Memory>
-    requires shape { length timing.now.patterns ≡ count artery.now }
-    requires first { 1 ≤ signal }
-    requires last { signal ≤ count artery.now }
+    requires shape { IsFor artery.now (base timing.now) }
+    requires signal { HasSignal artery.now signal }
     ensures { OnOk result (out.new.items ≡ out.old.items ++ signal_rows artery.now timing.now signal) }
 {
     push_diagram_line(out, artery, timing, Dir::Outbound, signal)?;
@@ -129,7 +126,7 @@ fn push_signal_rows(
 
 /// Writes the time-space diagram of a timing, as `diagram` has it.
 pub fn push_diagram(out: &mut Vec<u8>, artery: &Artery, timing: &Timing) -> Result<(), Memory>
-    requires { length timing.now.patterns ≡ count artery.now }
+    requires { IsFor artery.now (base timing.now) }
     ensures { OnOk result (out.new.items ≡ out.old.items ++ diagram_lines artery.now timing.now) }
 {
     for signal in (1..artery.count() + 1).rev() {
@@ -144,7 +141,7 @@ pub fn push_diagram(out: &mut Vec<u8>, artery: &Artery, timing: &Timing) -> Resu
 /// (inbound) where the tick is in the direction's band, and `=` where it is green beside the band. The error is want of
 /// memory.
 pub fn diagram(alloc: Global, artery: &Artery, timing: &Timing) -> Result<Vec<u8>, Memory>
-    requires { length timing.now.patterns ≡ count artery.now }
+    requires { IsFor artery.now (base timing.now) }
     ensures { IfOk result (λ lines. lines.items ≡ diagram_lines artery.now timing.now) }
 {
     let mut lines = Vec::new(alloc);

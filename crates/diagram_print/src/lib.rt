@@ -16,7 +16,7 @@
 //! What is told of a verdict is said once for timings of any kind: `verdict_lines` is a function of the table of families by which
 //! rows are named, of the lines of the timing, if there is one, of the bound and of the verdict, and asks only that the box of a
 //! site is one of the artery. `report` is that over the artery's own table and the lines of its timing. `push_link_lines` asks of a
-//! timing the rules that speak of no band (`IsBase`). `push_row` names a row over any table of families, as that of links, and
+//! timing the rules of its base (`IsBase`). `push_row` names a row over any table of families, as that of links, and
 //! `push_column` the halves of links behind the columns that every artery has. What is named `push_..` writes at the end of a text.
 #![tactic(auto)]
 

@@ -109,7 +109,7 @@ fn lines_of(
     artery: &Artery,
     timing: &Option<Timing>,
 ) -> Result<Option<Vec<u8>>, Memory>
-    requires { IfSome timing.now (λ plan. Good artery.now plan) }
+    requires { IfSome timing.now (λ t. Good artery.now t) }
     ensures { IfOk result (λ lines. option_map (λ l. l.items) lines ≡ option_map (timing_lines artery.now) timing.now) }
 {
     match timing {
@@ -129,7 +129,7 @@ fn lines_of(
 /// The error is want of memory.
 #[tactic(auto, unfolding(certificate_model::specs::Families::ordinary))]
 pub fn report(alloc: Global, artery: &Artery, found: &Found) -> Result<Vec<u8>, Memory>
-    requires good { IfSome found.now.timing (λ plan. Good artery.now plan) }
+    requires good { IfSome found.now.timing (λ t. Good artery.now t) }
     requires site { HasSite artery.now found.now.verdict }
     ensures { IfOk result (λ lines. lines.items ≡ report_lines artery.now found.now) }
 {

@@ -1,8 +1,10 @@
 //! The lines of a timing's signals.
 
 ghost use Rattle.std.specs.Prelude.{◌≡◌, ◌++◌, ◌≤◌, length, OnOk};
-ghost use Rattle.progression.specs.Street.{count};
+ghost use Rattle.progression.specs.Street.{count, HasSignal};
 ghost use Rattle.diagram_print.specs.Offsets.{offset_name, signal_line, signal_lines};
+ghost use Rattle.time_space.specs.Timing.{IsFor};
+ghost use Rattle.progression.specs.TimingRecord.{base};
 
 use crate::measures::push_measure;
 use artery_model::Artery;
@@ -31,9 +33,8 @@ fn push_signal_line(
     timing: &Timing,
     signal: u32,
 ) -> Result<(), Memory>
-    requires shape { length timing.now.patterns ≡ count artery.now }
-    requires first { 1 ≤ signal }
-    requires last { signal ≤ count artery.now }
+    requires shape { IsFor artery.now (base timing.now) }
+    requires signal { HasSignal artery.now signal }
     ensures { OnOk result (out.new.items ≡ out.old.items ++ signal_line artery.now timing.now signal) }
 {
     push_offset_name(out, timing, signal)?;
@@ -46,7 +47,7 @@ fn push_signal_line(
 /// Writes the lines of the signals, from the first on.
 #[tactic(auto, using(timing_measures::proofs::Pieces::piece_up))]
 pub fn push_signal_lines(out: &mut Vec<u8>, artery: &Artery, timing: &Timing) -> Result<(), Memory>
-    requires { length timing.now.patterns ≡ count artery.now }
+    requires { IsFor artery.now (base timing.now) }
     ensures { OnOk result (out.new.items ≡ out.old.items ++ signal_lines artery.now timing.now) }
 {
     for signal in 1..artery.count() + 1 {

@@ -1,7 +1,7 @@
 //! The lines of a timing's links.
 
-ghost use Rattle.std.specs.Prelude.{◌≡◌, ◌++◌, ◌<◌, ◌≤◌, OnOk};
-ghost use Rattle.progression.specs.{Street.{count}, Good.{IsBase}};
+ghost use Rattle.std.specs.Prelude.{◌≡◌, ◌++◌, OnOk};
+ghost use Rattle.progression.specs.{Street.{count, HasLink}, Good.{IsBase}, TimingRecord.{base}};
 ghost use Rattle.diagram_print.specs.Speeds.{link_name, speed_line, speed_lines, link_lines};
 
 use crate::measures::{dir_name, push_measure_line};
@@ -29,9 +29,8 @@ fn push_speed_line(
     dir: Dir,
     link: u32,
 ) -> Result<(), Memory>
-    requires base { IsBase artery.now timing.now }
-    requires first { 1 ≤ link }
-    requires last { link < count artery.now }
+    requires base { IsBase artery.now (base timing.now) }
+    requires link { HasLink artery.now link }
     ensures { OnOk result (out.new.items ≡ out.old.items ++ speed_line artery.now timing.now dir link) }
 {
     push_link_name(out, link, " ", dir)?;
@@ -45,9 +44,8 @@ fn push_speed_lines(
     timing: &Timing,
     link: u32,
 ) -> Result<(), Memory>
-    requires base { IsBase artery.now timing.now }
-    requires first { 1 ≤ link }
-    requires last { link < count artery.now }
+    requires base { IsBase artery.now (base timing.now) }
+    requires link { HasLink artery.now link }
     ensures { OnOk result (out.new.items ≡ out.old.items ++ speed_lines artery.now timing.now link) }
 {
     push_speed_line(out, artery, timing, Dir::Outbound, link)?;
@@ -56,7 +54,7 @@ fn push_speed_lines(
 
 /// Writes the lines of the links, as `link_lines` has them.
 pub fn push_link_lines(out: &mut Vec<u8>, artery: &Artery, timing: &Timing) -> Result<(), Memory>
-    requires { IsBase artery.now timing.now }
+    requires { IsBase artery.now (base timing.now) }
     ensures { OnOk result (out.new.items ≡ out.old.items ++ link_lines artery.now timing.now) }
 {
     for link in 1..artery.count() {

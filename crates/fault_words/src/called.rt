@@ -2,26 +2,16 @@
 
 ghost use Rattle.std.specs.{Prelude.{◌≡◌, ◌++◌, ◌<◌, [], Some, codes, OnOk, if◌then◌else◌}, Fmt.{decimal}};
 ghost use Rattle.toml.specs.View.{view};
-ghost use Rattle.description_reader.specs.Values.{text_in};
 ghost use Rattle.fault_words.specs.Shown.{plain_text, name_in, has_name, called, signal_words, link_words, heading, section_words};
 ghost use Rattle.fault_words.specs.Places.{table_of, section_number};
 ghost use Rattle.description_reader.specs.declared.place.Section.TheVariants.{Signal};
 
 use crate::place::table_of;
 use crate::shown::{MOST_TOLD, push_plain_text};
-use description_reader::{Section, value_at};
+use description_reader::{Section, text_in, value_at};
 use narrow_fraction::Memory;
 use quantity_text::{push_number, push_text};
 use toml::Value;
-
-fn text_in(value: &Value) -> &str
-    ensures { result.now ≡ text_in (view value.now) }
-{
-    match value.as_str() {
-        Some(text) => text,
-        None => "",
-    }
-}
 
 /// The name in a table, empty where it has none.
 pub fn name_at(table: &Value) -> &str

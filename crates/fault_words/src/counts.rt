@@ -13,19 +13,10 @@ use crate::place::{Document, table_of};
 use crate::signed::{push_parts_number, push_signed};
 use artery_model::Kind;
 use artery_model::bounds::LEAST_SIGNALS;
-use description_reader::{Facts, Section, items_at, value_at};
+use description_reader::{Facts, Section, integer_in, items_at, value_at};
 use narrow_fraction::Memory;
 use quantity_text::{push_number, push_text};
 use toml::Value;
-
-fn integer_in(value: &Value) -> i64
-    ensures { result ≡ integer_in (view value.now) }
-{
-    match value.as_integer() {
-        Some(number) => number,
-        None => 0,
-    }
-}
 
 fn integer_at(table: &Value, key: &str) -> i64
     ensures { result ≡ integer_in (at_key (view table.now) key.now) }

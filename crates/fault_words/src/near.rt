@@ -2,26 +2,15 @@
 
 ghost use Rattle.std.specs.Prelude.{◌≡◌, ◌&&◌, ◌||◌, not, nat_le, option_map, IfOk};
 ghost use Rattle.description_reader.specs.KeyTable.{key_of};
-ghost use Rattle.description_reader.specs.Keys.{may_stand};
 ghost use Rattle.fault_words.specs.Near.{distance, most_letters, is_here, known_key, named_key, is_nearest, is_meant, meant_key};
 
-use description_reader::{Entry, Facts, Presence, Section, entries, is_in};
+use description_reader::{Entry, Facts, Section, entries, is_in, may_stand};
 use narrow_fraction::Memory;
 use std::alloc::Global;
 use strsim::levenshtein;
 
 /// The most letters in which a key that was meant differs.
 const MOST_LETTERS: usize = 2;
-
-/// Whether a key may stand in a table of its section.
-fn may_stand(links: usize, section: Section, presence: Presence) -> bool
-    ensures { result ≡ may_stand links section presence }
-{
-    match (section, presence) {
-        (Section::Link(number), Presence::NotLast) => number != links,
-        _ => true,
-    }
-}
 
 /// Whether a table of the section may have the key.
 pub fn is_here(facts: Facts, section: Section, entry: &Entry) -> bool

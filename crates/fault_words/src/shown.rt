@@ -1,11 +1,11 @@
 //! How a value is told, and what a table is called.
 
-ghost use Rattle.std.specs.{Prelude.{◌≡◌, ◌++◌, ◌==◌, map, codes, OnOk, if◌then◌else◌}, List.{flat_map, list_all}, Fmt.{decimal}};
+ghost use Rattle.std.specs.{Prelude.{◌≡◌, ◌++◌, ◌==◌, map, codes, OnOk, if◌then◌else◌}, List.{flat_map}, Fmt.{decimal}};
 ghost use Rattle.toml.specs.View.{view};
 ghost use Rattle.fault_words.specs.Shown.{plain, plain_text, quoted, truth, list_size, item_words, listed, value_words, is_bare, key_words};
-ghost use Rattle.description_reader.specs.{Keys.{is_key_character}, Values.{items_in}};
 
 use crate::signed::push_signed;
+use description_reader::{has_key_characters, items_in};
 use narrow_fraction::Memory;
 use quantity_text::{push_number, push_text};
 use toml::Value;
@@ -67,12 +67,6 @@ fn push_quoted(out: &mut Vec<u8>, text: &str) -> Result<(), Memory>
     }
 }
 
-fn has_key_characters(bytes: &[u8]) -> bool
-    ensures { result ≡ list_all is_key_character bytes.now }
-{
-    bytes.iter().all(|byte| byte.is_ascii_alphanumeric() || *byte == b'_' || *byte == b'-')
-}
-
 fn is_bare(key: &str) -> bool
     ensures { result ≡ is_bare key.now }
 {
@@ -111,17 +105,6 @@ fn push_list_size(out: &mut Vec<u8>, count: usize) -> Result<(), Memory>
     push_text(out, "a list of ")?;
     push_number(out, count as u128)?;
     push_text(out, value_or_values(count))
-}
-
-/// The items of an array, none of any other value.
-#[tactic(auto, using(description_reader::proofs::Views::list_of_items))]
-fn items_in(value: &Value) -> &[Value]
-    ensures { map view result.now ≡ items_in (view value.now) }
-{
-    match value.as_array() {
-        Some(items) => items.as_slice(),
-        None => &[],
-    }
 }
 
 /// Writes a value, of a list only how many it has.

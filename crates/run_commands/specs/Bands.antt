@@ -3,12 +3,13 @@ use Rattle.std.specs.Prelude.{◌≡◌, ◌≤◌, ℕ, pos, List, ◌++◌, co
 use Rattle.std.specs.Fmt.{decimal}
 use Rattle.rational_theory.specs.Rational.{over}
 use Rattle.progression.specs.Street.{Street}
-use Rattle.progression.specs.TimingRecord.{TimingRecord, cycle}
+use Rattle.progression.specs.TimingRecord.{TimingRecord, base}
+use Rattle.progression.specs.BaseRecord.{cycle}
 use Rattle.progression.specs.Good.{IsBase}
 use Rattle.progression.specs.declared.parts.Dir.{Dir}
 use Rattle.progression.specs.declared.parts.Dir.TheVariants.{Outbound, Inbound}
 use Rattle.artery_model.specs.Valid.{IsValid}
-use Rattle.time_space.specs.FirstFailing.{IsFirstFailing, rule_order, last_base_rule}
+use Rattle.time_space.specs.FirstFailing.{IsFirstBaseFailing}
 use Rattle.time_space.specs.declared.failing.Failing.{Failing}
 use Rattle.diagram_print.specs.Measures.{dir_name, measure_text}
 use Rattle.band_measure.specs.Widest.{IsWidestBand}
@@ -20,24 +21,23 @@ use Rattle.run_inputs.specs.declared.cause.Cause.TheVariants as cause
 -- the widest band of a direction, as a fraction of the cycle, with the tick of its first line
 abbrev pub widest_line : Street → TimingRecord → Dir → Option Widest → List ℕ
 widest_line a t d None = codes "no band " ++ (dir_name d ++ codes "\n")
-widest_line a t d (Some w) = measure_text (codes "band " ++ dir_name d) (over (pos w.band) (cycle a t)) 6 ++ (codes " first " ++ (decimal w.first ++ codes "\n"))
+widest_line a t d (Some w) = measure_text (codes "band " ++ dir_name d) (over (pos w.band) (cycle a (base t))) 6 ++ (codes " first " ++ (decimal w.first ++ codes "\n"))
 
--- the timing keeps the rules that speak of no band, and these are the widest bands of both directions
+-- the timing's base keeps its rules, and these are the widest bands of both directions
 pub record IsMeasured (a : Street) (t : TimingRecord) (lines : List ℕ) : Type 0 where
   pub valid : IsValid a
   pub unit : 2 ≤ t.unit
-  pub base : IsBase a t
   pub outbound : Option Widest
   pub inbound : Option Widest
-  pub outbound_is : IsWidestBand a t Outbound outbound
-  pub inbound_is : IsWidestBand a t Inbound inbound
+  pub outbound_is : IsWidestBand a (base t) Outbound outbound
+  pub inbound_is : IsWidestBand a (base t) Inbound inbound
+  pub base : IsBase a (base t)
   pub lines_are : lines ≡ widest_line a t Outbound outbound ++ widest_line a t Inbound inbound
 
--- it breaks one of these rules, and this is the first
+-- the base breaks one of them, and this is the first
 pub record BreaksBase (a : Street) (t : TimingRecord) (f : Failing) (lines : List ℕ) : Type 0 where
-  pub not_base : ¬ IsBase a t
-  pub first : IsFirstFailing a t f
-  pub order : rule_order f ≤ last_base_rule
+  pub not_base : ¬ IsBase a (base t)
+  pub first : IsFirstBaseFailing a (base t) f
   pub lines_are : lines ≡ fails_line f
 
 abbrev pub BandsFinds : Street → TimingRecord → Cause → List ℕ → Type 0

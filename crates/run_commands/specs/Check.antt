@@ -4,7 +4,7 @@ use Rattle.progression.specs.Street.{Street, count}
 use Rattle.certificate_model.specs.Warrants.{Warrant}
 use Rattle.link_proof.specs.LinkWarrants.{LinkWarrant}
 use Rattle.run_inputs.specs.Reading.{Value}
-use Rattle.run_commands.specs.Sought.{Sought, whole_bands, bands_of_links}
+use Rattle.run_commands.specs.Sought.{Sought, Proves, whole_bands, bands_of_links}
 use Rattle.run_commands.specs.Checked.{Checked, whole_checked, links_checked}
 use Rattle.run_commands.specs.CheckLines.{accepted_line}
 use Rattle.run_inputs.specs.declared.cause.Cause.{Cause}
@@ -15,7 +15,7 @@ use Rattle.run_inputs.specs.declared.cause.Cause.TheVariants as cause
 pub record Accepts (k : Sought) (s : Checked k) (a : Street) (w : Value k.reader) (c : Cause) (lines : List ℕ) : Type 0 where
   pub cause_is : c ≡ cause.Done
   pub accepted : s.Accepted a w
-  pub proves : s.Proves a w
+  pub proves : Proves k a w
   pub lines_are : lines ≡ accepted_line (k.claim w)
 
 -- the certificate is refused on the artery, and this is the first refusal, never want of memory

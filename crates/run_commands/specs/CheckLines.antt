@@ -74,7 +74,7 @@ rejected_line signals (reject.LeafTooWeak leaf place) = weak_line signals leaf p
 rejected_line signals reject.Memory = []
 
 -- ---- a certificate of link timings
--- the text that names a broken rule: of one that speaks of no band as for any timing
+-- the text that names a broken rule: of one of the base as for any timing
 abbrev pub link_failing_text : LinkFailing → List ℕ
 link_failing_text (failing.Base f) = failing_text f
 link_failing_text (failing.Ratio i) = codes "ratio link " ++ decimal i

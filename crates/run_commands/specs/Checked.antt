@@ -3,11 +3,9 @@ use Rattle.std.specs.Prelude.{ℕ, List}
 use Rattle.progression.specs.Street.{Street}
 use Rattle.certificate_model.specs.Families.{Table, ordinary}
 use Rattle.certificate_checker.specs.Accepted.{IsAccepted}
-use Rattle.certificate_checker.specs.Claims as claims
 use Rattle.certificate_checker.specs.Refusals as whole
 use Rattle.certificate_checker.specs.declared.reject.Reject.TheVariants as reject
 use Rattle.link_proof.specs.LinkAccepted.{IsLinkAccepted}
-use Rattle.link_proof.specs.LinkClaims.{LinkClaimHolds}
 use Rattle.link_proof.specs.LinkFamilies.{links}
 use Rattle.link_proof.specs.LinkRefusals as link
 use Rattle.run_inputs.specs.Reading.{Value}
@@ -18,7 +16,6 @@ use Rattle.run_inputs.specs.declared.cause.Cause.TheVariants as cause
 
 pub record Checked (k : Sought) : Type 1 where
   pub Accepted : Street → Value k.reader → Type 0
-  pub Proves : Street → Value k.reader → Type 0  -- the claim holds of all good timings of the artery
   pub Reject : Type 0  -- why a certificate is refused
   pub First : Street → Value k.reader → Reject → Type 0
   pub wanting : Reject  -- memory was wanting, which says nothing of the certificate
@@ -29,7 +26,6 @@ pub record Checked (k : Sought) : Type 1 where
 abbrev pub whole_checked : Checked whole_bands
 whole_checked = record {
   Accepted = IsAccepted;
-  Proves = λ a w. claims.ClaimHolds a w.claim w.timing;
   Reject = whole.Reject;
   First = whole.IsFirstRefusal;
   wanting = reject.Memory;
@@ -41,7 +37,6 @@ whole_checked = record {
 abbrev pub links_checked : Checked bands_of_links
 links_checked = record {
   Accepted = IsLinkAccepted;
-  Proves = λ a w. LinkClaimHolds a w.claim w.timing;
   Reject = link.LinkReject;
   First = link.IsFirstLinkRefusal;
   wanting = reject.Memory;

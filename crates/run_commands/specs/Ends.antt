@@ -42,7 +42,7 @@ abbrev pub IsRoundFromEnd : Cause → Type 0
 IsRoundFromEnd (cause.Fails f) = Unit {0}
 IsRoundFromEnd c = IsRoundEnd c
 
--- half-cycle plans are looked for, a rule fails that speaks of no band, or the timing can have no such plan
+-- half-cycle plans are looked for, a rule of the base fails, or the timing can have no such plan
 abbrev pub IsHalfEnd : Cause → Type 0
 IsHalfEnd (cause.Unmatched e) = Unit {0}
 IsHalfEnd c = IsTestEnd c

@@ -3,7 +3,7 @@ use Rattle.std.specs.Prelude.{◌≡◌, ◌⊎◌, ℕ, List, ◌++◌, codes, 
 use Rattle.std.specs.List.{flat_map, range_with_len}
 use Rattle.std.specs.Fmt.{decimal}
 use Rattle.progression.specs.Street.{Street, count}
-use Rattle.progression.specs.TimingRecord.{TimingRecord}
+use Rattle.progression.specs.TimingRecord.{TimingRecord, base}
 use Rattle.progression.specs.Good.{IsBase}
 use Rattle.progression.specs.declared.parts.Dir.TheVariants.{Outbound}
 use Rattle.plan_text.specs.Spelling.{timing_text}
@@ -66,15 +66,15 @@ pub record HasNoHalfPlan (a : Street) (t : TimingRecord) (lines : List ℕ) (put
   pub lines_are : lines ≡ codes "no equal band\n"
   pub no_put : put ≡ None
 
--- the timing keeps the rules that speak of no band, and can have such plans
+-- the timing's base keeps its rules, and it can have such plans
 pub record IsHalved (a : Street) (t : TimingRecord) (lines : List ℕ) (put : Option (List ℕ)) : Type 0 where
-  pub base : IsBase a t
+  pub base : IsBase a (base t)
   pub ready : IsReady a t
   pub found : HasNoHalfPlan a t lines put ⊎ With (IsHalfPlan a t lines) put
 
--- it keeps them and can have none, for this first reason
+-- the base keeps them and the timing can have none, for this first reason
 pub record IsUnmatched (a : Street) (t : TimingRecord) (e : HalfEnd) (lines : List ℕ) (put : Option (List ℕ)) : Type 0 where
-  pub base : IsBase a t
+  pub base : IsBase a (base t)
   pub first : Ends a t e
   pub lines_are : lines ≡ end_line e
   pub no_put : put ≡ None

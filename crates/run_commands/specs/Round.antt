@@ -7,7 +7,7 @@ use Rattle.narrow_fraction.specs.declared.wide.Wide.{Wide}
 use Rattle.quantity_text.specs.Exact.{exact_spelling}
 use Rattle.progression.specs.Street.{Street, count, signal_of}
 use Rattle.progression.specs.Speeds.{number}
-use Rattle.progression.specs.TimingRecord.{TimingRecord}
+use Rattle.progression.specs.TimingRecord.{TimingRecord, base}
 use Rattle.progression.specs.declared.parts.Dir.TheVariants.{Outbound, Inbound}
 use Rattle.progression.specs.Good.{Good}
 use Rattle.time_space.specs.FirstFailing.{IsFirstFailing}
@@ -78,7 +78,7 @@ pub record IsRounded (Accepts : Street → Warrant → Type 0) (a : Street) (w :
   pub claim : ℚ
   pub certified : IsCertified Accepts a w given timing claim
   pub plan : Rounded
-  pub answer : IsAnswer a claim timing plan
+  pub answer : IsAnswer a claim (base timing) plan
   pub best : IsBestOfOffsets a plan.timing
   pub loss : number 0 ≤ℚ plan.loss
   pub lines_are : lines ≡ plan_lines a plan.seconds plan.offsets.items plan.timing plan.loss
@@ -88,7 +88,7 @@ pub record IsRounded (Accepts : Street → Warrant → Type 0) (a : Street) (w :
 -- the certificate is accepted, and no timing is given, or the one that is has no plan, for this first reason
 abbrev pub Unplans : (Street → Warrant → Type 0) → Street → Warrant → Option TimingRecord → PlanEnd → Type 0
 Unplans Accepts a w given end.NoTimingGiven = Accepts a w × (given ≡ None)
-Unplans Accepts a w given e = (timing : TimingRecord) × (claim : ℚ) × IsCertified Accepts a w given timing claim × Ends a claim timing e
+Unplans Accepts a w given e = (timing : TimingRecord) × (claim : ℚ) × IsCertified Accepts a w given timing claim × Ends a claim (base timing) e
 
 pub record IsUnplanned (Accepts : Street → Warrant → Type 0) (a : Street) (w : Warrant) (given : Option TimingRecord) (e : PlanEnd) (lines : List ℕ) (put : Option (List ℕ)) : Type 0 where
   pub first : Unplans Accepts a w given e

@@ -1,14 +1,13 @@
 -- What a command searches for: a kind of timing, the certificates that have one, and what is said of such timings on any grid.
 use Rattle.std.specs.Prelude.{Option}
-use Rattle.rational_theory.specs.Rational.{ℚ}
 use Rattle.progression.specs.Street.{Street}
 use Rattle.progression.specs.TimingRecord.{TimingRecord}
-use Rattle.progression.specs.Good as whole
-use Rattle.progression.specs.Best as whole_best
+use Rattle.progression.specs.Objectives.{Objective}
+use Rattle.progression.specs.Best.{bands_of}
 use Rattle.link_theory.specs.LinkRecord.{LinkRecord}
-use Rattle.link_theory.specs.GoodLinks.{GoodLinks}
-use Rattle.link_theory.specs.BestLinks.{link_value, BestLinks, BoundedLinks, NoLinks}
+use Rattle.link_theory.specs.BestLinks.{links_of}
 use Rattle.certificate_model.specs.declared.certificate.Claim.{Claim}
+use Rattle.certificate_checker.specs.Claims.{ClaimHoldsBy}
 use Rattle.run_inputs.specs.Reading.{Value}
 use Rattle.run_inputs.specs.declared.reader.Reader.{Reader}
 use Rattle.run_inputs.specs.declared.reader.Reader.TheVariants.{Certificate, LinkCertificate}
@@ -18,11 +17,11 @@ pub record Sought : Type 1 where
   pub Timing : Type 0
   pub claim : Value reader → Claim
   pub timing : Value reader → Option Timing
-  pub Good : Street → Timing → Type 0
-  pub value : Street → Timing → ℚ
-  pub Best : Street → Timing → Type 0  -- good, and no good one has a greater value
-  pub NoneGood : Street → Type 0
-  pub Bounded : Street → ℚ → Type 0  -- no good one has a value above this
+  pub objective : Street → Objective Timing  -- which are good, and what each is worth
+
+-- what the claim of a certificate says of all timings of its kind on any grid holds
+abbrev pub Proves : (k : Sought) → Street → Value k.reader → Type 0
+Proves k a w = ClaimHoldsBy (k.objective a) (k.claim w) (k.timing w)
 
 -- one band a direction, all the way
 abbrev pub whole_bands : Sought
@@ -31,11 +30,7 @@ whole_bands = record {
   Timing = TimingRecord;
   claim = λ w. w.claim;
   timing = λ w. w.timing;
-  Good = whole.Good;
-  value = whole_best.weighted_band;
-  Best = whole_best.Best;
-  NoneGood = whole_best.NoTiming;
-  Bounded = whole_best.Bounded;
+  objective = bands_of;
 }
 
 -- a band for each link
@@ -45,9 +40,5 @@ bands_of_links = record {
   Timing = LinkRecord;
   claim = λ w. w.claim;
   timing = λ w. w.timing;
-  Good = GoodLinks;
-  value = link_value;
-  Best = BestLinks;
-  NoneGood = NoLinks;
-  Bounded = BoundedLinks;
+  objective = links_of;
 }

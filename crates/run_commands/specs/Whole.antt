@@ -5,7 +5,8 @@ use Rattle.std.specs.Fmt.{decimal}
 use Rattle.rational_theory.specs.Rational.{ℚ, ◌≤ℚ◌}
 use Rattle.progression.specs.Street.{Street, count, signal_of}
 use Rattle.progression.specs.Speeds.{number}
-use Rattle.progression.specs.TimingRecord.{TimingRecord, pattern_of}
+use Rattle.progression.specs.TimingRecord.{TimingRecord, base}
+use Rattle.progression.specs.BaseRecord.{pattern_of}
 use Rattle.progression.specs.declared.parts.Dir.TheVariants.{Outbound, Inbound}
 use Rattle.progression.specs.Good.{Good}
 use Rattle.progression.specs.Best.{Bounded}
@@ -35,7 +36,7 @@ use Rattle.run_inputs.specs.declared.cause.Cause.TheVariants as cause
 -- ---- the lines
 abbrev pub signal_line : Street → TimingRecord → List ℕ → ℕ → List ℕ
 signal_line a t offsets i =
-    codes "signal " ++ (decimal i ++ (codes " pattern " ++ (decimal (pattern_of t i) ++ (codes " offset "
+    codes "signal " ++ (decimal i ++ (codes " pattern " ++ (decimal (pattern_of (base t) i) ++ (codes " offset "
     ++ (decimal (slice_index offsets (i - 1)) ++ (codes " " ++ ((signal_of a i).name ++ codes "\n")))))))
 
 abbrev pub signal_lines : Street → TimingRecord → List ℕ → List ℕ

@@ -1,7 +1,7 @@
 //! The command `bands`.
 
 ghost use Rattle.std.specs.Prelude.{◌≡◌, ◌++◌, ◌<◌, None, Some, IfOk, IfSome, OnOk, codes, refl};
-ghost use Rattle.progression.specs.{TimingRecord.{cycle}, Good.{IsBase}};
+ghost use Rattle.progression.specs.{BaseRecord.{cycle}, Good.{IsBase}, TimingRecord.{base}};
 ghost use Rattle.diagram_print.specs.Measures.{dir_name};
 ghost use Rattle.run_inputs.specs.{Puts.{bytes_of}, Status.{IsOwnAnswer}};
 ghost use Rattle.run_commands.specs.Bands.{widest_line, IsMeasured, BandsFinds};
@@ -49,7 +49,7 @@ fn push_band(
     dir: Dir,
     widest: Widest,
 ) -> Result<(), Memory>
-    requires { widest.band < cycle artery.now timing.now }
+    requires { widest.band < cycle artery.now (base timing.now) }
     ensures { OnOk result (out.new.items ≡ out.old.items ++ widest_line artery.now timing.now dir (Some widest)) }
 {
     push_text(out, band_name(dir))?;
@@ -65,7 +65,7 @@ pub fn push_widest(
     dir: Dir,
     found: Option<Widest>,
 ) -> Result<(), Memory>
-    requires { IfSome found (λ w. w.band < cycle artery.now timing.now) }
+    requires { IfSome found (λ w. w.band < cycle artery.now (base timing.now)) }
     ensures { OnOk result (out.new.items ≡ out.old.items ++ widest_line artery.now timing.now dir found) }
 {
     match found {
@@ -74,9 +74,9 @@ pub fn push_widest(
     }
 }
 
-/// The lines of the widest bands on the offsets of a timing that keeps the rules that speak of no band.
+/// The lines of the widest bands on the offsets of a timing whose base keeps its rules.
 pub fn measured(alloc: Global, artery: &Artery, timing: &Timing) -> Result<Vec<u8>, Memory>
-    requires { IsBase artery.now timing.now }
+    requires { IsBase artery.now (base timing.now) }
     ensures { IfOk result (λ lines. IsMeasured artery.now timing.now lines.items) }
 {
     artery.known_valid();
@@ -89,8 +89,8 @@ pub fn measured(alloc: Global, artery: &Artery, timing: &Timing) -> Result<Vec<u
     Ok(lines)
 }
 
-/// Measures the greatest band of each direction on the offsets of the timing, whatever its firsts and bands: where it keeps the rules
-/// that speak of no band, else the answer has the first of these that it breaks.
+/// Measures the greatest band of each direction on the offsets of the timing, whatever its firsts and bands: where its base
+/// keeps the rules, else the answer has the first that it breaks.
 fn measure_bands(alloc: Global, artery: &Artery, timing: &Timing) -> Result<Found, Memory>
     ensures finds { IfOk result (λ a. BandsFinds artery.now timing.now a.cause a.lines.items) }
     ensures ends { IfOk result (λ a. IsTestEnd a.cause) }

@@ -1,11 +1,13 @@
 //! The command `draw`.
 
-ghost use Rattle.std.specs.Prelude.{◌≡◌, None, IfOk, length, option_map, refl};
+ghost use Rattle.std.specs.Prelude.{◌≡◌, None, IfOk, option_map, refl};
 ghost use Rattle.progression.specs.Street.{count};
 ghost use Rattle.run_inputs.specs.{Puts.{bytes_of}, Status.{IsOwnAnswer}};
 ghost use Rattle.run_commands.specs.{Lines.{untimed_line}, Draw.{drawn_lines, TimingFinds, DrawFinds}};
 ghost use Rattle.run_commands.specs.Ends.{IsDrawingEnd};
 ghost use Rattle.run_commands.specs.declared.table.Usage.TheVariants as usage;
+ghost use Rattle.time_space.specs.Timing.{IsFor};
+ghost use Rattle.progression.specs.TimingRecord.{base};
 
 use crate::command::Command;
 use crate::hold::{broken, fails};
@@ -38,7 +40,7 @@ fn draw_shaped(
     timing: &Timing,
     title: Option<&str>,
 ) -> Result<Found, Memory>
-    requires { length timing.now.patterns ≡ count artery.now }
+    requires { IsFor artery.now (base timing.now) }
     ensures finds { IfOk result (λ a. TimingFinds artery.now timing.now (option_map (λ word. word.now) title.entry) a.cause a.lines.items (bytes_of a)) }
     ensures ends { IfOk result (λ a. IsDrawingEnd a.cause) }
     ensures answer { IfOk result (λ a. IsOwnAnswer a.cause (bytes_of a)) }

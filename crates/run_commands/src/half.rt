@@ -1,11 +1,13 @@
 //! The command `half`.
 
-ghost use Rattle.std.specs.Prelude.{◌≡◌, ◌≤◌, ◌++◌, None, IfOk, OnOk, length, refl};
-ghost use Rattle.progression.specs.Street.{count};
+ghost use Rattle.std.specs.Prelude.{◌≡◌, ◌++◌, None, IfOk, OnOk, refl};
+ghost use Rattle.progression.specs.Street.{count, HasSignal};
 ghost use Rattle.run_inputs.specs.{Puts.{bytes_of}, Status.{IsOwnAnswer}};
 ghost use Rattle.run_commands.specs.Half.{phase_name, phase_line, phase_lines, half_lines, ticks_line, end_line, TellsPlan, HalfFinds};
 ghost use Rattle.run_commands.specs.Ends.{IsHalfEnd};
 ghost use Rattle.run_commands.specs.declared.table.Usage.TheVariants as usage;
+ghost use Rattle.time_space.specs.Timing.{IsFor};
+ghost use Rattle.progression.specs.TimingRecord.{base};
 
 use crate::command::Command;
 use crate::hold::fails;
@@ -30,9 +32,8 @@ fn phase_name(is_later: bool) -> &'static str
 
 /// Writes the line of a signal: whether its red is centred with that of signal 1, or half a cycle later.
 fn push_phase(out: &mut Vec<u8>, artery: &Artery, plan: &Timing, signal: u32) -> Result<(), Memory>
-    requires shape { length plan.now.patterns ≡ count artery.now }
-    requires first { 1 ≤ signal }
-    requires last { signal ≤ count artery.now }
+    requires shape { IsFor artery.now (base plan.now) }
+    requires signal { HasSignal artery.now signal }
     ensures { OnOk result (out.new.items ≡ out.old.items ++ phase_line artery.now plan.now signal) }
 {
     push_numbered(out, "signal ", signal as u128)?;
@@ -44,7 +45,7 @@ fn push_phase(out: &mut Vec<u8>, artery: &Artery, plan: &Timing, signal: u32) ->
 /// Writes the lines of the signals, from the first on.
 #[tactic(auto, using(crate::proofs::Pushed::pushed_next))]
 fn push_phases(out: &mut Vec<u8>, artery: &Artery, plan: &Timing) -> Result<(), Memory>
-    requires { length plan.now.patterns ≡ count artery.now }
+    requires { IsFor artery.now (base plan.now) }
     ensures { OnOk result (out.new.items ≡ out.old.items ++ phase_lines artery.now plan.now) }
 {
     for signal in 1..artery.count() + 1 {
@@ -55,7 +56,7 @@ fn push_phases(out: &mut Vec<u8>, artery: &Artery, plan: &Timing) -> Result<(), 
 
 /// The lines of a half-cycle plan: its band as a fraction of the cycle, and the phase of each signal.
 fn half_lines(alloc: Global, artery: &Artery, plan: &Timing) -> Result<Vec<u8>, Memory>
-    requires { length plan.now.patterns ≡ count artery.now }
+    requires { IsFor artery.now (base plan.now) }
     ensures { IfOk result (λ lines. lines.items ≡ half_lines artery.now plan.now) }
 {
     let mut lines = Vec::new(alloc);
@@ -97,7 +98,7 @@ fn unmatched(alloc: Global, end: HalfEnd) -> Result<Found, Memory>
 
 /// The answer with a half-cycle plan, whose text is put.
 fn tell_plan(alloc: Global, artery: &Artery, plan: &Timing) -> Result<Found, Memory>
-    requires { length plan.now.patterns ≡ count artery.now }
+    requires { IsFor artery.now (base plan.now) }
     ensures { IfOk result (λ a. TellsPlan artery.now plan.now a.cause a.lines.items (bytes_of a)) }
 {
     let lines = half_lines(alloc, artery, plan)?;
@@ -109,8 +110,8 @@ fn tell_plan(alloc: Global, artery: &Artery, plan: &Timing) -> Result<Found, Mem
     })
 }
 
-/// Finds the widest equal bands over all offsets of the timing, whose text is put. Nothing is put where there are none, and where the
-/// timing breaks a rule that speaks of no band or can't have such a plan.
+/// Finds the widest equal bands over all offsets of the timing, whose text is put. Nothing is put where there are none, and where a
+/// rule of the base fails or the timing can't have such a plan.
 fn half_cycle(alloc: Global, artery: &Artery, timing: &Timing) -> Result<Found, Memory>
     ensures finds { IfOk result (λ a. HalfFinds artery.now timing.now a.cause a.lines.items (bytes_of a)) }
     ensures ends { IfOk result (λ a. IsHalfEnd a.cause) }

@@ -10,7 +10,7 @@
 //! `run_inputs`). Each has a module.
 //!
 //! - `solve` (`specs/Solve.antt`): of the artery that the file describes an answer of the search with just the limit that the words
-//!   say, which may be none (`IsSearch` of `branch_tree`), and what follows for every good timing on any grid (`ProvesOf`). The
+//!   say, which may be none (`IsSearch` of `branch_tree`), and what follows for every good timing on any grid (`ProvesBy`). The
 //!   certificate is accepted, the text that is put is its one spelling and is read back as that very certificate (`IsTextOf`), and
 //!   the output grew by exactly the report. Which of several best timings is found isn't determined. `links` (`specs/Links.antt`)
 //!   is the same over link timings, by `multi_band`.
@@ -30,7 +30,7 @@
 //!   isn't determined, and so neither is whether they lead to a plan.
 //! - `explain` (`specs/Explain.antt`) tells of any file's bytes what `file_words` does (`Tells`).
 //! - `timing` (`specs/Typed.antt`) puts the one timing that a typed plan has by `typed_plan`, with the widest bands on its offsets,
-//!   where it keeps the rules that speak of no band (`HasTiming`), or tells the first reason for which the plan has none.
+//!   where its base keeps the rules (`HasTiming`), or tells the first reason for which the plan has none.
 //! - `draw` and `sheet` ask of a file's timing its number of signals alone (`specs/Shaped.antt`), put its picture or its table, and tell the
 //!   first rule that it breaks.
 //! - `sweep` (`specs/Sweep.antt`) puts the table of `cycle_sweep` of just the cycles that the words spell, and always ends with

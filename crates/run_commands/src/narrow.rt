@@ -1,7 +1,7 @@
 //! The commands `narrow` and `widen`.
 
-ghost use Rattle.std.specs.Prelude.{◌≡◌, ◌≤◌, ◌<◌, ◌++◌, IfOk, OnOk, refl};
-ghost use Rattle.progression.specs.Street.{count};
+ghost use Rattle.std.specs.Prelude.{◌≡◌, ◌++◌, IfOk, OnOk, refl};
+ghost use Rattle.progression.specs.Street.{count, HasLink};
 ghost use Rattle.run_inputs.specs.{Puts.{With, bytes_of}, Status.{IsOwnAnswer}};
 ghost use Rattle.run_commands.specs.Narrow.{moved_word, stays_line, link_lines, stays_lines, moved_lines, IsMove};
 ghost use Rattle.run_commands.specs.Ends.{IsDone};
@@ -36,8 +36,7 @@ fn push_stays(
     dir: Dir,
     link: u32,
 ) -> Result<(), Memory>
-    requires first { 1 ≤ link }
-    requires last { link < count artery.now }
+    requires link { HasLink artery.now link }
     ensures { OnOk result (out.new.items ≡ out.old.items ++ stays_line way artery.now dir link) }
 {
     if !stays(way, artery, dir, link) {
@@ -51,8 +50,7 @@ fn push_stays(
 
 /// Writes the lines of both directions of a link.
 fn push_link(out: &mut Vec<u8>, way: Way, artery: &Artery, link: u32) -> Result<(), Memory>
-    requires first { 1 ≤ link }
-    requires last { link < count artery.now }
+    requires link { HasLink artery.now link }
     ensures { OnOk result (out.new.items ≡ out.old.items ++ link_lines way artery.now link) }
 {
     push_stays(out, way, artery, Dir::Outbound, link)?;

@@ -1,7 +1,7 @@
 //! The commands `round` and `round-from`.
 
-ghost use Rattle.std.specs.Prelude.{◌≡◌, ◌≤◌, ◌++◌, None, Some, IfOk, OnOk, length, refl};
-ghost use Rattle.progression.specs.{Street.{count}, Good.{Good}};
+ghost use Rattle.std.specs.Prelude.{◌≡◌, ◌++◌, None, Some, IfOk, OnOk, length, refl};
+ghost use Rattle.progression.specs.{Street.{count, HasSignal}, Good.{Good}};
 ghost use Rattle.diagram_print.specs.Measures.{band_line, weighted_line};
 ghost use Rattle.run_inputs.specs.{Puts.{bytes_of}, Status.{IsOwnAnswer}};
 ghost use Rattle.run_commands.specs.Round.{offset_line, offset_lines, plan_lines, unplanned_line, TellsRounded, RoundFinds, RoundFromFinds};
@@ -35,8 +35,7 @@ fn push_offset(
     signal: u32,
 ) -> Result<(), Memory>
     requires shape { length offsets.now ≡ count artery.now }
-    requires first { 1 ≤ signal }
-    requires last { signal ≤ count artery.now }
+    requires signal { HasSignal artery.now signal }
     ensures { OnOk result (out.new.items ≡ out.old.items ++ offset_line artery.now offsets.now signal) }
 {
     push_numbered(out, "signal ", signal as u128)?;

@@ -1,10 +1,12 @@
 //! The command `sheet`.
 
-ghost use Rattle.std.specs.Prelude.{◌≡◌, IfOk, length, refl};
+ghost use Rattle.std.specs.Prelude.{◌≡◌, IfOk, refl};
 ghost use Rattle.progression.specs.Street.{count};
 ghost use Rattle.run_inputs.specs.{Puts.{bytes_of}, Status.{IsOwnAnswer}};
 ghost use Rattle.run_commands.specs.{Ends.{IsDrawingEnd}, Sheet.{sheet_lines, TimingFinds, SheetFinds}};
 ghost use Rattle.run_commands.specs.declared.table.Usage.TheVariants as usage;
+ghost use Rattle.time_space.specs.Timing.{IsFor};
+ghost use Rattle.progression.specs.TimingRecord.{base};
 
 use crate::command::Command;
 use crate::draw::untimed;
@@ -26,7 +28,7 @@ fn sheet_lines(
     timing: &Timing,
     broken: Option<Failing>,
 ) -> Result<Vec<u8>, Memory>
-    requires { length timing.now.patterns ≡ count artery.now }
+    requires { IsFor artery.now (base timing.now) }
     ensures { IfOk result (λ lines. lines.items ≡ sheet_lines artery.now timing.now broken) }
 {
     let mut lines = Vec::new(alloc);
@@ -43,7 +45,7 @@ fn sheet_shaped(
     timing: &Timing,
     reference: Reference,
 ) -> Result<Found, Memory>
-    requires { length timing.now.patterns ≡ count artery.now }
+    requires { IsFor artery.now (base timing.now) }
     ensures finds { IfOk result (λ a. TimingFinds artery.now timing.now reference a.cause a.lines.items (bytes_of a)) }
     ensures ends { IfOk result (λ a. IsDrawingEnd a.cause) }
     ensures answer { IfOk result (λ a. IsOwnAnswer a.cause (bytes_of a)) }

@@ -1,7 +1,8 @@
 //! The command `timing`.
 
 ghost use Rattle.std.specs.Prelude.{◌≡◌, None, IfOk, refl};
-ghost use Rattle.progression.specs.TimingRecord.{cycle};
+ghost use Rattle.progression.specs.BaseRecord.{cycle};
+ghost use Rattle.progression.specs.TimingRecord.{base};
 ghost use Rattle.typed_plan.specs.Ends.{IsBelow};
 ghost use Rattle.run_inputs.specs.{Puts.{bytes_of}, Status.{IsOwnAnswer}};
 ghost use Rattle.run_commands.specs.{Half.{ticks_line}, Typed.{measured_lines, WritesTiming, TypedFinds}};
@@ -24,8 +25,8 @@ use typed_plan::{Measured, TypedFault, timing_of};
 
 /// The lines of a plan's timing, but for the last.
 fn measured_lines(alloc: Global, artery: &Artery, made: &Measured) -> Result<Vec<u8>, Memory>
-    requires outbound { IsBelow (cycle artery.now made.now.timing) made.now.outbound }
-    requires inbound { IsBelow (cycle artery.now made.now.timing) made.now.inbound }
+    requires outbound { IsBelow (cycle artery.now (base made.now.timing)) made.now.outbound }
+    requires inbound { IsBelow (cycle artery.now (base made.now.timing)) made.now.inbound }
     ensures { IfOk result (λ lines. lines.items ≡ measured_lines artery.now made.now) }
 {
     let timing = &made.timing;
@@ -38,8 +39,8 @@ fn measured_lines(alloc: Global, artery: &Artery, made: &Measured) -> Result<Vec
 
 /// Tells what was measured of a plan's timing and whether it holds, and writes it.
 fn write_measured(alloc: Global, artery: &Artery, made: &Measured) -> Result<Found, Memory>
-    requires outbound { IsBelow (cycle artery.now made.now.timing) made.now.outbound }
-    requires inbound { IsBelow (cycle artery.now made.now.timing) made.now.inbound }
+    requires outbound { IsBelow (cycle artery.now (base made.now.timing)) made.now.outbound }
+    requires inbound { IsBelow (cycle artery.now (base made.now.timing)) made.now.inbound }
     ensures finds { IfOk result (λ a. WritesTiming artery.now made.now a.cause a.lines.items (bytes_of a)) }
     ensures ends { IfOk result (λ a. IsTypedEnd a.cause) }
     ensures answer { IfOk result (λ a. IsOwnAnswer a.cause (bytes_of a)) }

@@ -1,13 +1,14 @@
 //! The command `whole`.
 
-ghost use Rattle.std.specs.Prelude.{◌≡◌, ◌≤◌, ◌++◌, ℕ, List, None, Some, IsTrue, IsFalse, IfOk, IfSome, OnOk, length, map, string_bytes, refl};
-ghost use Rattle.progression.specs.{Street.{count}, Good.{Good, IsBase}, Best.{Bounded}};
+ghost use Rattle.std.specs.Prelude.{◌≡◌, ◌++◌, ℕ, List, None, Some, IsTrue, IsFalse, IfOk, IfSome, OnOk, length, map, string_bytes, refl};
+ghost use Rattle.progression.specs.{Street.{count, HasSignal}, Good.{Good, IsBase}, Best.{Bounded}, TimingRecord.{base}};
 ghost use Rattle.certificate_checker.specs.Accepted.{limit_of};
 ghost use Rattle.run_inputs.specs.{Puts.{bytes_of}, Status.{IsOwnAnswer}, Cycles.{seconds_of, Spell, AreSpelled}};
 ghost use Rattle.run_commands.specs.declared.table.Usage.TheVariants as usage;
 ghost use Rattle.run_commands.specs.Whole.{signal_line, signal_lines, way_lines, whole_lines, IsBasis, TellsWhole, WholeFinds};
 ghost use Rattle.run_commands.specs.Bound.{IsBound};
 ghost use Rattle.run_commands.specs.Ends.{IsRoundEnd};
+ghost use Rattle.time_space.specs.Timing.{IsFor};
 
 use crate::bound::bound_refusal;
 use crate::check::rejected;
@@ -36,10 +37,9 @@ fn push_signal(
     offsets: &[u64],
     signal: u32,
 ) -> Result<(), Memory>
-    requires shape { length timing.now.patterns ≡ count artery.now }
+    requires shape { IsFor artery.now (base timing.now) }
     requires offsets { length offsets.now ≡ count artery.now }
-    requires first { 1 ≤ signal }
-    requires last { signal ≤ count artery.now }
+    requires signal { HasSignal artery.now signal }
     ensures { OnOk result (out.new.items ≡ out.old.items ++ signal_line artery.now timing.now offsets.now signal) }
 {
     push_numbered(out, "signal ", signal as u128)?;
@@ -58,7 +58,7 @@ fn push_signals(
     timing: &Timing,
     offsets: &[u64],
 ) -> Result<(), Memory>
-    requires shape { length timing.now.patterns ≡ count artery.now }
+    requires shape { IsFor artery.now (base timing.now) }
     requires offsets { length offsets.now ≡ count artery.now }
     ensures { OnOk result (out.new.items ≡ out.old.items ++ signal_lines artery.now timing.now offsets.now) }
 {
@@ -70,7 +70,7 @@ fn push_signals(
 
 /// Writes the lines of the speeds of a timing, of its bands and of its weighted band.
 fn push_way(out: &mut Vec<u8>, artery: &Artery, timing: &Timing) -> Result<(), Memory>
-    requires { IsBase artery.now timing.now }
+    requires { IsBase artery.now (base timing.now) }
     ensures { OnOk result (out.new.items ≡ out.old.items ++ way_lines artery.now timing.now) }
 {
     push_link_lines(out, artery, timing)?;
@@ -79,7 +79,7 @@ fn push_way(out: &mut Vec<u8>, artery: &Artery, timing: &Timing) -> Result<(), M
 
 /// Writes the lines of a plan.
 fn push_plan(out: &mut Vec<u8>, artery: &Artery, plan: &Plan) -> Result<(), Memory>
-    requires base { IsBase artery.now plan.now.timing }
+    requires base { IsBase artery.now (base plan.now.timing) }
     requires offsets { length plan.now.offsets.items ≡ count artery.now }
     ensures { OnOk result (out.new.items ≡ out.old.items ++ whole_lines artery.now plan.now) }
 {
@@ -91,7 +91,7 @@ fn push_plan(out: &mut Vec<u8>, artery: &Artery, plan: &Plan) -> Result<(), Memo
 
 /// The answer with a plan, whose text is put.
 fn tell_plan(alloc: Global, artery: &Artery, plan: &Plan) -> Result<Found, Memory>
-    requires base { IsBase artery.now plan.now.timing }
+    requires base { IsBase artery.now (base plan.now.timing) }
     requires offsets { length plan.now.offsets.items ≡ count artery.now }
     ensures { IfOk result (λ a. TellsWhole artery.now plan.now a.cause a.lines.items (bytes_of a)) }
 {

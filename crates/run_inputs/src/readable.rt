@@ -185,8 +185,10 @@ impl Readable for Timed {
     #[tactic(auto, using(crate::proofs::Timing::timing_read, crate::proofs::Timing::certificate_read))]
     fn read(alloc: Global, bytes: Vec<u8>) -> Result<Timed, Unread> {
         if is_timing(bytes.as_slice()) {
-            let plan = <Timing as Readable>::read(alloc, bytes)?;
-            return Ok(Timed { timing: Some(plan) });
+            let timing = <Timing as Readable>::read(alloc, bytes)?;
+            return Ok(Timed {
+                timing: Some(timing),
+            });
         }
         let warrant = <Certificate as Readable>::read(alloc, bytes)?;
         let Certificate { timing, .. } = warrant;

@@ -3,7 +3,8 @@ use Rattle.std.specs.Prelude.{option_map, if◌then◌else◌}
 use Rattle.plan_text.specs.Spelling.{timing_text}
 use Rattle.std.proofs.Common.{arith, pos, ◌*ℤ◌, ◌++◌, ◌*◌, ◌⊎◌, ap₂, ◌≤◌, ◌≡◌, ℕ, Bool, true, false, List, [], ◌∷◌, Option, Some, None, inl, inr, refl, sym, ◌∙◌, ap, subst}
 use Rattle.progression.specs.Street.{Street, count}
-use Rattle.progression.specs.TimingRecord.{TimingRecord}
+use Rattle.progression.specs.TimingRecord.{TimingRecord, base}
+use Rattle.progression.specs.BaseRecord.{BaseRecord}
 use Rattle.description_reader.specs.Printed.{OneText}
 use Rattle.progression.specs.declared.parts.Dir.{Dir}
 use Rattle.progression.specs.declared.parts.Dir.TheVariants.{Outbound, Inbound}
@@ -16,6 +17,7 @@ use Rattle.half_integer.specs.Answers.{OneEnd}
 use Rattle.certificate_model.specs.Warrants.{Warrant}
 use Rattle.time_space.specs.Failing.{FailsRulesOut}
 use Rattle.time_space.specs.FirstFailing.{IsFirstFailing, OneFirst}
+use Rattle.time_space.proofs.Firsts.{first_of_base}
 use Rattle.certificate_checker.specs.Laws.{RefusedIsNotAccepted, OneFirstRefusal}
 use Rattle.link_proof.specs.LinkLaws.{LinkRefusedIsNotAccepted, OneFirstLinkRefusal}
 use Rattle.branch_and_bound.specs.declared.found.Verdict.{Verdict}
@@ -119,12 +121,12 @@ module _ (k : Sought) (s : Checked k) (once : OneRefusal k s) (a : Street) (w : 
   checks_once apart c d x y (inr h) (inl o) = absurd (apart a w h.reject h.first h.kept o.accepted)
   checks_once apart c d x y (inr h) (inr o) = rejects_once c d x y h o
 
--- a rule that speaks of no band and fails first
+-- the first rule of the base that fails
 breaks_once : OneFirst → (a : Street) (t : TimingRecord) (f g : Failing) (x y : List ℕ) → BreaksBase a t f x → BreaksBase a t g y → (cause.Fails f ≡ cause.Fails g) × (x ≡ y)
-breaks_once one_first a t f g x y h k = let e = one_first a t f g h.first k.first in (ap cause.Fails e, h.lines_are ∙ ap fails_line e ∙ sym k.lines_are)
+breaks_once one_first a t f g x y h k = let e = one_first a t f g (first_of_base a t f h.first) (first_of_base a t g k.first) in (ap cause.Fails e, h.lines_are ∙ ap fails_line e ∙ sym k.lines_are)
 
 -- of one direction
-widest_once : OneWidest → FinerPairs → (a : Street) (t : TimingRecord) (d : Dir) (v w : Option Widest) → IsValid a → 2 ≤ t.unit → IsWidestBand a t d v → IsWidestBand a t d w → v ≡ w
+widest_once : OneWidest → FinerPairs → (a : Street) (t : BaseRecord) (d : Dir) (v w : Option Widest) → IsValid a → 2 ≤ t.unit → IsWidestBand a t d v → IsWidestBand a t d w → v ≡ w
 widest_once once finer a t d None None valid unit h k = refl
 widest_once once finer a t d None (Some w) valid unit h k = absurd (h 1 (pos w.first *ℤ pos 1) (w.band * 1) (omega arith) ((finer a t d 1 (pos w.first) w.band valid unit (omega arith)).0 k.runs))
 widest_once once finer a t d (Some v) None valid unit h k = absurd (k 1 (pos v.first *ℤ pos 1) (v.band * 1) (omega arith) ((finer a t d 1 (pos v.first) v.band valid unit (omega arith)).0 h.runs))
@@ -134,8 +136,8 @@ widest_once once finer a t d (Some v) (Some w) valid unit h k =
 
 bands_once : OneFirst → OneWidest → FinerPairs → (a : Street) (t : TimingRecord) (c d : Cause) (x y : List ℕ) → BandsFinds a t c x → BandsFinds a t d y → (c ≡ d) × (x ≡ y)
 bands_once one_first once finer a t cause.Done cause.Done x y h k =
-    let out = widest_once once finer a t Outbound h.outbound k.outbound h.valid h.unit h.outbound_is k.outbound_is in
-    let in_ = widest_once once finer a t Inbound h.inbound k.inbound h.valid h.unit h.inbound_is k.inbound_is in
+    let out = widest_once once finer a (base t) Outbound h.outbound k.outbound h.valid h.unit h.outbound_is k.outbound_is in
+    let in_ = widest_once once finer a (base t) Inbound h.inbound k.inbound h.valid h.unit h.inbound_is k.inbound_is in
     (refl, h.lines_are ∙ ap₂ (λ v w. widest_line a t Outbound v ++ widest_line a t Inbound w) out in_ ∙ sym k.lines_are)
 bands_once one_first once finer a t cause.Done (cause.Fails f) x y h k = absurd (k.not_base h.base)
 bands_once one_first once finer a t cause.Done d x y h k = absurd k
@@ -179,26 +181,26 @@ module _ (ends : second.OneEnd) (apart : PlanOrEnd) (one : OnePlan) (Accepts Ref
   plans_once x y s u h k =
       let t = same_value o h.timing k.timing h.certified.timing_is k.certified.timing_is in
       let q = same_value (limit_of w.claim) h.claim k.claim h.certified.claim_is k.certified.claim_is in
-      let other = subst (λ c. IsAnswer a c h.timing k.plan) q (subst (λ p. IsAnswer a k.claim p k.plan) t k.answer) in
-      let e = one a h.claim h.timing h.plan k.plan h.certified.valid h.certified.good h.answer other in (
+      let other = subst (λ c. IsAnswer a c (base h.timing) k.plan) q (subst (λ p. IsAnswer a k.claim (base p) k.plan) t k.answer) in
+      let e = one a h.claim (base h.timing) h.plan k.plan h.certified.valid h.certified.good.base h.answer other in (
         h.lines_are ∙ same_lines a h.plan.seconds k.plan.seconds h.plan.offsets.items k.plan.offsets.items h.plan.timing k.plan.timing h.plan.loss k.plan.loss e.0 e.1 e.2 e.3 ∙ sym k.lines_are,
         h.written ∙ ap timing_text e.2 ∙ sym k.written,
       )
 
   -- the timing and the number of another certificate's end
-  ends_here : (t u : TimingRecord) (x y : ℚ) (e : PlanEnd) → IsCertified Accepts a w o t x → IsCertified Accepts a w o u y → Ends a y u e → Ends a x t e
+  ends_here : (t u : TimingRecord) (x y : ℚ) (e : PlanEnd) → IsCertified Accepts a w o t x → IsCertified Accepts a w o u y → Ends a y (base u) e → Ends a x (base t) e
   ends_here t u x y e c d h =
-      subst (λ p. Ends a x p e) (same_value o t u c.timing_is d.timing_is) (subst (λ q. Ends a q u e) (same_value (limit_of w.claim) x y c.claim_is d.claim_is) h)
+      subst (λ p. Ends a x (base p) e) (same_value o t u c.timing_is d.timing_is) (subst (λ q. Ends a q (base u) e) (same_value (limit_of w.claim) x y c.claim_is d.claim_is) h)
 
   plan_apart : (e : PlanEnd) (x s : List ℕ) → IsRounded Accepts a w o x s → Unplans Accepts a w o e → ⊥
   plan_apart end.NoTimingGiven x s h k = no_value o h.timing h.certified.timing_is k.1
-  plan_apart e x s h k = apart a h.claim h.timing h.plan e h.certified.valid h.certified.good h.answer (ends_here h.timing k.0 h.claim k.1 e h.certified k.2 k.3)
+  plan_apart e x s h k = apart a h.claim (base h.timing) h.plan e h.certified.valid h.certified.good.base h.answer (ends_here h.timing k.0 h.claim k.1 e h.certified k.2 k.3)
 
   unplans_once : (e f : PlanEnd) → Unplans Accepts a w o e → Unplans Accepts a w o f → e ≡ f
   unplans_once end.NoTimingGiven end.NoTimingGiven h k = refl
   unplans_once end.NoTimingGiven f h k = absurd (no_value o k.0 k.2.timing_is h.1)
   unplans_once e end.NoTimingGiven h k = absurd (no_value o h.0 h.2.timing_is k.1)
-  unplans_once e f h k = ends a h.1 h.0 e f h.2.valid h.2.good h.3 (ends_here h.0 k.0 h.1 k.1 f h.2 k.2 k.3)
+  unplans_once e f h k = ends a h.1 (base h.0) e f h.2.valid h.2.good.base h.3 (ends_here h.0 k.0 h.1 k.1 f h.2 k.2 k.3)
 
   module _ (one_first : OneFirst) (rules : FailsRulesOut) (clash : (c : Cause) (l : List ℕ) → Rejects whole_bands whole_checked a w c l → Refuses a w → Accepts a w → ⊥) (once : OneFirstRefusal) where
     unfit_once : (f g : Failing) (x y : List ℕ) (s u : Option (List ℕ)) → IsUnfit Accepts a w o f x s → IsUnfit Accepts a w o g y u → (cause.Fails f ≡ cause.Fails g) × (x ≡ y) × (s ≡ u)

@@ -6,7 +6,7 @@ use Rattle.outer_edge.specs.Taken.{Appends}
 use Rattle.rational_theory.specs.Rational.{ℚ, ◌+ℚ◌, ◌-ℚ◌, ◌≤ℚ◌}
 use Rattle.rational_theory.proofs.Ring.{ring, at, minus, ◌⊕◌}
 use Rattle.progression.specs.Street.{Street}
-use Rattle.progression.specs.TimingRecord.{TimingRecord}
+use Rattle.progression.specs.TimingRecord.{TimingRecord, base}
 use Rattle.progression.specs.Good.{Good}
 use Rattle.progression.specs.Best.{weighted_band, Bounded}
 use Rattle.artery_model.specs.Valid.{IsValid}
@@ -69,8 +69,8 @@ rounded_put Accepts bounds before now plan a w o lines text r held told = record
   offsets = r.plan.offsets.items;
   loss = r.plan.loss;
   planned = r.answer.planned;
-  cycle_is = cycle_told a r.timing r.plan.timing r.plan.seconds r.plan.offsets.items r.certified.valid r.certified.good r.answer.good r.answer.planned;
-  offsets_are = offset_told a r.timing r.plan.timing r.plan.seconds r.plan.offsets.items r.certified.valid r.certified.good r.answer.good r.answer.planned;
+  cycle_is = cycle_told a (base r.timing) r.plan.timing r.plan.seconds r.plan.offsets.items r.certified.valid r.certified.good.base r.answer.good r.answer.planned;
+  offsets_are = offset_told a (base r.timing) r.plan.timing r.plan.seconds r.plan.offsets.items r.certified.valid r.certified.good.base r.answer.good r.answer.planned;
   good = r.answer.good;
   best = r.best;
   lost = lost Accepts bounds a w o r.timing r.claim (weighted_band a r.plan.timing) r.plan.loss r.certified r.answer.loss;

@@ -24,22 +24,22 @@ use Rattle.run_laws.specs.Laws.{value_line, open_lines}
 past_two : (x y z w : List ℕ) → x ++ (y ++ (z ++ w)) ≡ (x ++ (y ++ z)) ++ w
 past_two x y z w = ap (λ l. x ++ l) (sym (append_assoc y z w)) ∙ sym (append_assoc x (y ++ z) w)
 
-module _ (k : Sought) (a : Street) (report rest : k.Timing → List ℕ) (begins : (t : k.Timing) → report t ≡ value_line (Some (k.value a t)) ++ rest t) where
+module _ (k : Sought) (a : Street) (report rest : k.Timing → List ℕ) (begins : (t : k.Timing) → report t ≡ value_line (Some ((k.objective a).worth t)) ++ rest t) where
   -- what follows the line of the value, where there is one
   abbrev pub after_value : Option k.Timing → List ℕ
   after_value None = []
   after_value (Some t) = rest t
 
-  value_first : (timing : Option k.Timing) → found_lines (option_map report timing) ≡ value_line (option_map (k.value a) timing) ++ after_value timing
+  value_first : (timing : Option k.Timing) → found_lines (option_map report timing) ≡ value_line (option_map (k.objective a).worth timing) ++ after_value timing
   value_first None = refl
   value_first (Some t) = begins t
 
   pub open_first : (table : Table) (timing : Option k.Timing) (bound : ℚ) (stop : Stop SitePart)
-      → verdict_lines table (count a) (option_map report timing) bound (Stopped stop) ≡ open_lines table a stop bound (option_map (k.value a) timing) ++ after_value timing
+      → verdict_lines table (count a) (option_map report timing) bound (Stopped stop) ≡ open_lines table a stop bound (option_map (k.objective a).worth timing) ++ after_value timing
   open_first table timing bound stop =
       let o = codes "verdict open\n" in
       let s = stop_lines table (count a) stop in
-      let v = value_line (option_map (k.value a) timing) in
+      let v = value_line (option_map (k.objective a).worth timing) in
       ap (λ l. o ++ (s ++ (bound_line bound ++ l))) (value_first timing) ∙ ap (λ l. o ++ l) (past_two s (bound_line bound) v (after_value timing))
       ∙ sym (append_assoc o (s ++ (bound_line bound ++ v)) (after_value timing))
 

@@ -6,10 +6,12 @@ use Rattle.outer_edge.specs.Taken.{Appends}
 use Rattle.rational_theory.specs.Rational.{ℚ, ◌≤ℚ◌}
 use Rattle.progression.specs.Street.{Street, count}
 use Rattle.progression.specs.TimingRecord.{TimingRecord}
+use Rattle.progression.specs.Objectives.{BoundedBy, BestOf, NoneOf}
 use Rattle.plan_text.specs.CertificateReading.{certificate_of}
 use Rattle.certificate_model.specs.declared.certificate.Claim.{Claim}
 use Rattle.certificate_model.specs.declared.certificate.Claim.TheVariants as claim
 use Rattle.time_space.specs.Failing.{FailsRulesOut}
+use Rattle.certificate_checker.specs.Claims.{IsBestBy}
 use Rattle.certificate_checker.specs.Laws.{RefusedIsNotAccepted}
 use Rattle.link_proof.specs.LinkLaws.{LinkRefusedIsNotAccepted}
 use Rattle.branch_and_bound.specs.Rules.{Rules}
@@ -31,15 +33,13 @@ use Rattle.link_theory.specs.LinkRecord.{LinkRecord}
 use Rattle.diagram_print.specs.Report.{best_lines, verdict_lines, timing_lines}
 use Rattle.multi_band.specs.LinkReport.{link_timing_lines}
 use Rattle.multi_band.specs.LinkCertified.{link_warrant_of}
-use Rattle.multi_band.specs.LinkKind.{link_bands as kind_of_links}
 use Rattle.multi_band.specs.LinkRules.{link_rules}
 use Rattle.multi_band.specs.LinkSearches.{link_incumbent_of}
 use Rattle.multi_band.specs.LinkSites.{IsLinkSiteOf}
 use Rattle.multi_band.specs.LinkEnough.{link_enough_of}
 use Rattle.run_laws.specs.Asked as ask
 use Rattle.maxband_run.specs.Outside.{Outside}
-use Rattle.branch_tree.specs.Kinds.{ProvesOf as Proves}
-use Rattle.branch_tree.specs.WholeBands.{whole_bands as kind_of_whole}
+use Rattle.branch_tree.specs.Kinds.{ProvesBy}
 use Rattle.run_commands.specs.Searched.{cause_of}
 use Rattle.run_inputs.specs.Reading.{Value, IsReadAs, Reads}
 use Rattle.run_inputs.specs.declared.reader.Reader.TheVariants.{Description}
@@ -88,18 +88,8 @@ verdict_stopped : (stop : Stop SitePart) (v : Verdict SitePart) → cause.Stoppe
 verdict_stopped stop (Stopped other) e = ap Stopped (same_stop stop other e)
 verdict_stopped stop v e = absurd cc
 
--- what a verdict says of the timing and the bound, of any kind of timing
-abbrev IsBestOf : (k : Sought) → Street → Option k.Timing → ℚ → Type 0
-IsBestOf k a None bound = ⊥
-IsBestOf k a (Some plan) bound = k.Best a plan × (k.value a plan ≡ bound)
-
-abbrev ProvesOf : (k : Sought) → Street → Option k.Timing → ℚ → Verdict SitePart → Type 0
-ProvesOf k a timing bound Best = IsBestOf k a timing bound
-ProvesOf k a timing bound NoTiming = (timing ≡ None) × k.NoneGood a
-ProvesOf k a timing bound (Stopped stop) = k.Bounded a bound × IfSome timing (λ plan. k.Good a plan × (k.value a plan ≤ℚ bound))
-
 abbrev claimed_by : (k : Sought) → Street → Option k.Timing → ℚ → Verdict SitePart → Claim
-claimed_by k a timing bound verdict = claim_by verdict bound (option_map (k.value a) timing)
+claimed_by k a timing bound verdict = claim_by verdict bound (option_map (k.objective a).worth timing)
 
 -- what the text that is put, and the lines that are told, say of what was found, and why the search stopped, where it did
 record Tells (k : Sought) (s : Checked k) (stops : SearchStops k.Timing) (a : Street) (limit : Option ℕ) (c : Cause) (lines text : List ℕ) : Type 0 where
@@ -108,14 +98,14 @@ record Tells (k : Sought) (s : Checked k) (stops : SearchStops k.Timing) (a : St
   pub bound : ℚ
   pub warrant : Value k.reader
   pub cause_is : c ≡ cause_of verdict
-  pub proves : ProvesOf k a timing bound verdict
+  pub proves : ProvesBy (k.objective a) timing bound verdict
   pub accepted : s.Accepted a warrant
   pub read_back : IsReadAs k.reader text warrant
   pub claim_is : k.claim warrant ≡ claimed_by k a timing bound verdict
   pub timing_is : k.timing warrant ≡ timing
   pub report : k.Timing → List ℕ
   pub rest : k.Timing → List ℕ
-  pub begins : (t : k.Timing) → report t ≡ value_line (Some (k.value a t)) ++ rest t
+  pub begins : (t : k.Timing) → report t ≡ value_line (Some ((k.objective a).worth t)) ++ rest t
   pub lines_are : lines ≡ verdict_lines s.table (count a) (option_map report timing) bound verdict
   pub why : (stop : Stop SitePart) → verdict ≡ Stopped stop → stops a limit timing bound stop
 
@@ -128,7 +118,7 @@ record HasPut (k : Sought) (s : Checked k) (stops : SearchStops k.Timing) (befor
   pub held : HoldsExactly (now.holds certificate) text
   pub tells : Tells k s stops street limit c lines text
 
-best_plan : (k : Sought) (a : Street) (timing : Option k.Timing) (bound : ℚ) → IsBestOf k a timing bound → (plan : k.Timing) × (timing ≡ Some plan) × k.Best a plan
+best_plan : (k : Sought) (a : Street) (timing : Option k.Timing) (bound : ℚ) → IsBestBy (k.objective a) timing bound → (plan : k.Timing) × (timing ≡ Some plan) × BestOf (k.objective a) plan
 best_plan k a None bound h = absurd h
 best_plan k a (Some plan) bound h = (plan, refl, h.0)
 
@@ -149,11 +139,11 @@ module _ (k : Sought) (s : Checked k) (stops : SearchStops k.Timing) (whole : Wh
       let a = h.street in
       let t = h.tells in
       let is = verdict_done t.verdict t.cause_is in
-      let best = best_plan k a t.timing t.bound (subst (λ (v : Verdict SitePart). ProvesOf k a t.timing t.bound v) is t.proves) in
-      let claimed : k.claim t.warrant ≡ claim.Best (k.value a best.0) =
+      let best = best_plan k a t.timing t.bound (subst (λ (v : Verdict SitePart). ProvesBy (k.objective a) t.timing t.bound v) is t.proves) in
+      let claimed : k.claim t.warrant ≡ claim.Best ((k.objective a).worth best.0) =
       t.claim_is ∙ ap (claimed_by k a t.timing t.bound) is ∙ ap (λ (o : Option k.Timing). claimed_by k a o t.bound Best) best.1 in
       let first = codes "verdict best\n" in
-      let value = value_line (Some (k.value a best.0)) in
+      let value = value_line (Some ((k.objective a).worth best.0)) in
       let lines : h.lines ≡ (first ++ value) ++ t.rest best.0 =
       t.lines_are
       ∙ ap (verdict_lines s.table (count a) (option_map t.report t.timing) t.bound) is
@@ -166,7 +156,7 @@ module _ (k : Sought) (s : Checked k) (stops : SearchStops k.Timing) (whole : Wh
         description = h.description;
         best = best.2;
         told = (t.rest best.0, subst (λ (l : List ℕ). Appends before.taken now.taken l) lines h.written);
-        put = holds_claim cause.Done h (claim.Best (k.value a best.0)) (Some best.0) claimed (t.timing_is ∙ best.1);
+        put = holds_claim cause.Done h (claim.Best ((k.objective a).worth best.0)) (Some best.0) claimed (t.timing_is ∙ best.1);
       }
 
   puts_none : HasPut k s stops before now artery certificate limit cause.NoTiming → PutsNone k s before now artery certificate
@@ -174,7 +164,7 @@ module _ (k : Sought) (s : Checked k) (stops : SearchStops k.Timing) (whole : Wh
       let a = h.street in
       let t = h.tells in
       let is = verdict_none t.verdict t.cause_is in
-      let none = subst (λ (v : Verdict SitePart). ProvesOf k a t.timing t.bound v) is t.proves in
+      let none = subst (λ (v : Verdict SitePart). ProvesBy (k.objective a) t.timing t.bound v) is t.proves in
       let claimed : k.claim t.warrant ≡ claim.NoTiming = t.claim_is ∙ ap (claimed_by k a t.timing t.bound) is in
       let lines : h.lines ≡ codes "verdict none\n" = t.lines_are ∙ ap (verdict_lines s.table (count a) (option_map t.report t.timing) t.bound) is in
       record {
@@ -193,8 +183,8 @@ module _ (k : Sought) (s : Checked k) (stops : SearchStops k.Timing) (whole : Wh
       let a = h.street in
       let t = h.tells in
       let is = verdict_stopped stop t.verdict t.cause_is in
-      let bound = subst (λ (v : Verdict SitePart). ProvesOf k a t.timing t.bound v) is t.proves in
-      let value = option_map (k.value a) t.timing in
+      let bound = subst (λ (v : Verdict SitePart). ProvesBy (k.objective a) t.timing t.bound v) is t.proves in
+      let value = option_map (k.objective a).worth t.timing in
       let claimed : k.claim t.warrant ≡ claim.Stopped t.bound value = t.claim_is ∙ ap (claimed_by k a t.timing t.bound) is in
       let more = after_value k a t.report t.rest t.begins t.timing in
       let lines : h.lines ≡ open_lines s.table a stop t.bound value ++ more =
@@ -275,12 +265,6 @@ module _ {T K : Type 0} (r : Rules T K SitePart) (enough : ℕ) (IsNamed : Site 
       }
 
 -- ---- solve
-whole_proves : (a : Street) (timing : Option TimingRecord) (bound : ℚ) (verdict : Verdict SitePart) → Proves (kind_of_whole a) timing bound verdict → ProvesOf whole_bands a timing bound verdict
-whole_proves a None bound Best h = absurd h
-whole_proves a (Some plan) bound Best h = h
-whole_proves a timing bound NoTiming h = h
-whole_proves a timing bound (Stopped stop) h = h
-
 solve_put : (before now : Outside) (artery certificate : List ℕ) (limit : Option ℕ) (c : Cause) → IsVerdict c → Completes before now (ask.solve artery certificate limit) c
     → HasPut whole_bands whole_checked whole_stops before now artery certificate limit c
 solve_put before now artery certificate limit c v h =
@@ -299,7 +283,7 @@ solve_put before now artery certificate limit c v h =
         bound = s.found.bound;
         warrant = warrant_of f.values.0 s.found;
         cause_is = s.cause_is;
-        proves = whole_proves f.values.0 s.found.timing s.found.bound s.found.verdict s.searched.proves;
+        proves = s.searched.proves;
         accepted = s.searched.accepted;
         read_back = s.certificate_is.read_back;
         claim_is = refl;
@@ -324,12 +308,6 @@ pub solve_stop_says : SolveStopSays
 solve_stop_says = stop_says whole_bands whole_checked whole_stops whole_spent ask.solve solve_put
 
 -- ---- links
-link_proves : (a : Street) (timing : Option LinkRecord) (bound : ℚ) (verdict : Verdict SitePart) → Proves (kind_of_links a) timing bound verdict → ProvesOf bands_of_links a timing bound verdict
-link_proves a None bound Best h = absurd h
-link_proves a (Some plan) bound Best h = h
-link_proves a timing bound NoTiming h = h
-link_proves a timing bound (Stopped stop) h = h
-
 links_put : (before now : Outside) (artery certificate : List ℕ) (limit : Option ℕ) (c : Cause) → IsVerdict c → Completes before now (ask.links artery certificate limit) c
     → HasPut bands_of_links links_checked link_stops before now artery certificate limit c
 links_put before now artery certificate limit c v h =
@@ -348,7 +326,7 @@ links_put before now artery certificate limit c v h =
         bound = s.found.bound;
         warrant = link_warrant_of f.values.0 s.found;
         cause_is = s.cause_is;
-        proves = link_proves f.values.0 s.found.timing s.found.bound s.found.verdict s.searched.proves;
+        proves = s.searched.proves;
         accepted = s.searched.accepted;
         read_back = s.certificate_is.read_back;
         claim_is = refl;

@@ -7,7 +7,7 @@ use Rattle.outer_edge.specs.Taken.{Appends}
 use Rattle.rational_theory.specs.Rational.{ℚ, ◌+ℚ◌, ◌-ℚ◌, ◌≤ℚ◌}
 use Rattle.rational_theory.proofs.Ring.{ring, at, minus, ◌⊕◌}
 use Rattle.progression.specs.Street.{Street}
-use Rattle.progression.specs.TimingRecord.{TimingRecord}
+use Rattle.progression.specs.TimingRecord.{TimingRecord, base}
 use Rattle.progression.specs.Good.{Good}
 use Rattle.progression.specs.Best.{weighted_band, Bounded}
 use Rattle.speed_steps.specs.Moved.{widen}
@@ -46,11 +46,11 @@ module _ (a : Street) (w : Warrant) (named lines text : List ℕ) (r : IsWhole a
   abbrev start : TimingRecord
   start = r.answer.chosen.set.timing
 
-  steady : IsSteady a start r.plan.seconds r.plan.offsets.items r.plan.timing
+  steady : IsSteady a (base start) r.plan.seconds r.plan.offsets.items r.plan.timing
   steady =
       let set = r.answer.chosen.set.set.steady in
-      subst (λ t. IsSteady a start r.plan.seconds r.plan.offsets.items t) (sym r.answer.timing_is)
-      (subst (λ o. IsSteady a start r.plan.seconds o.items r.answer.plan.timing) (sym r.answer.offsets_are) set)
+      subst (λ t. IsSteady a (base start) r.plan.seconds r.plan.offsets.items t) (sym r.answer.timing_is)
+      (subst (λ o. IsSteady a (base start) r.plan.seconds o.items r.answer.plan.timing) (sym r.answer.offsets_are) set)
 
   tried : Contains (tried_cycles a w.timing named) r.plan.seconds
   tried =
@@ -77,8 +77,8 @@ module _ (a : Street) (w : Warrant) (named lines text : List ℕ) (r : IsWhole a
     widest = r.answer;
     tried = tried;
     started = r.answer.chosen.set.start;
-    cycle_is = whole_cycle_told a start r.plan.timing r.plan.seconds r.plan.offsets.items r.basis.valid r.good steady;
-    offsets_are = whole_offset_told a start r.plan.timing r.plan.seconds r.plan.offsets.items r.basis.valid r.good steady;
+    cycle_is = whole_cycle_told a (base start) r.plan.timing r.plan.seconds r.plan.offsets.items r.basis.valid r.good steady;
+    offsets_are = whole_offset_told a (base start) r.plan.timing r.plan.seconds r.plan.offsets.items r.basis.valid r.good steady;
     good = r.good;
     best = r.best;
     steady = steady;

@@ -6,6 +6,7 @@ use Rattle.outer_edge.specs.Held.{SameFiles, HoldsExactly}
 use Rattle.outer_edge.specs.Taken.{Appends}
 use Rattle.progression.specs.Street.{Street, count}
 use Rattle.progression.specs.TimingRecord.{TimingRecord}
+use Rattle.progression.specs.Objectives.{BoundedBy, BestOf, NoneOf}
 use Rattle.progression.specs.Good.{Good}
 use Rattle.progression.specs.Best.{weighted_band}
 use Rattle.time_space.specs.Failing.{Fails}
@@ -37,7 +38,7 @@ use Rattle.run_commands.specs.Table.{row, line_of, lines_of}
 use Rattle.run_commands.specs.Words.{Request, request_of}
 use Rattle.run_commands.specs.declared.table.Usage.{Usage}
 use Rattle.run_commands.specs.declared.table.Usage.TheVariants as usage
-use Rattle.run_commands.specs.Sought.{Sought, whole_bands, bands_of_links}
+use Rattle.run_commands.specs.Sought.{Sought, Proves, whole_bands, bands_of_links}
 use Rattle.run_commands.specs.Checked.{Checked, whole_checked, links_checked}
 use Rattle.run_commands.specs.Solve.{IsSolution}
 use Rattle.run_commands.specs.Links.{IsLinkSolution}
@@ -139,7 +140,7 @@ pub record IsConfirmed (k : Sought) (s : Checked k) (solves : Solves k) (before 
   pub done : d ≡ cause.Done
   pub certificate_is : Reads k.reader (between.holds certificate) warrant
   pub accepted : s.Accepted street warrant
-  pub proves : s.Proves street warrant
+  pub proves : Proves k street warrant
   pub told : Appends between.taken now.taken (accepted_line (k.claim warrant))
 
 -- After a verdict of a search that is asked for so, a run of its check over the same description and the file that was put accepts what was found, unless a fault or
@@ -181,15 +182,15 @@ pub record PutsBest (k : Sought) (s : Checked k) (before now : Outside) (artery 
   pub street : Street
   pub plan : k.Timing
   pub description : Describes (before.holds artery) street
-  pub best : k.Best street plan
-  pub told : TellsFirst before now (codes "verdict best\n" ++ value_line (Some (k.value street plan)))
-  pub put : HoldsCertificate k s street (now.holds certificate) (claim.Best (k.value street plan)) (Some plan)
+  pub best : BestOf (k.objective street) plan
+  pub told : TellsFirst before now (codes "verdict best\n" ++ value_line (Some ((k.objective street).worth plan)))
+  pub put : HoldsCertificate k s street (now.holds certificate) (claim.Best ((k.objective street).worth plan)) (Some plan)
 
 -- With status 1: no timing is good on the described artery, that alone is told, and the file that is put claims it.
 pub record PutsNone (k : Sought) (s : Checked k) (before now : Outside) (artery certificate : List ℕ) : Type 0 where
   pub street : Street
   pub description : Describes (before.holds artery) street
-  pub none : k.NoneGood street
+  pub none : NoneOf (k.objective street)
   pub told : Appends before.taken now.taken (codes "verdict none\n")
   pub put : HoldsCertificate k s street (now.holds certificate) claim.NoTiming None
 
@@ -210,10 +211,10 @@ pub record PutsBound (k : Sought) (s : Checked k) (before now : Outside) (artery
   pub timing : Option k.Timing
   pub stop : Stop SitePart
   pub description : Describes (before.holds artery) street
-  pub bounded : k.Bounded street bound
-  pub good : IfSome timing (λ plan. k.Good street plan × (k.value street plan ≤ℚ bound))
-  pub told : TellsFirst before now (open_lines s.table street stop bound (option_map (k.value street) timing))
-  pub put : HoldsCertificate k s street (now.holds certificate) (claim.Stopped bound (option_map (k.value street) timing)) timing
+  pub bounded : BoundedBy (k.objective street) bound
+  pub good : IfSome timing (λ plan. (k.objective street).IsGood plan × ((k.objective street).worth plan ≤ℚ bound))
+  pub told : TellsFirst before now (open_lines s.table street stop bound (option_map (k.objective street).worth timing))
+  pub put : HoldsCertificate k s street (now.holds certificate) (claim.Stopped bound (option_map (k.objective street).worth timing)) timing
   pub cause_is : c ≡ cause.Stopped stop
   pub whole_limit : IsWholeLimit limit stop
 
@@ -284,7 +285,7 @@ pub record SaysAccepted (k : Sought) (s : Checked k) (before now : Outside) (art
   pub warrant : Value k.reader
   pub description : Reads Description (before.holds artery) street
   pub text : Reads k.reader (before.holds certificate) warrant
-  pub proves : s.Proves street warrant
+  pub proves : Proves k street warrant
   pub told : Appends before.taken now.taken (accepted_line (k.claim warrant))
 
 -- a check with status 4: the certificate isn't accepted, this is its first refusal, and no file has changed

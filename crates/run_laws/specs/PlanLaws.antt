@@ -6,11 +6,11 @@ use Rattle.outer_edge.specs.Held.{SameFiles, HoldsExactly}
 use Rattle.outer_edge.specs.Taken.{Appends}
 use Rattle.progression.specs.Street.{Street, count, HasSignal}
 use Rattle.progression.specs.Speeds.{number}
-use Rattle.progression.specs.TimingRecord.{TimingRecord}
+use Rattle.progression.specs.TimingRecord.{TimingRecord, base}
 use Rattle.progression.specs.Good.{Good, IsBase}
 use Rattle.progression.specs.Best.{weighted_band}
 use Rattle.progression.specs.declared.parts.Dir.TheVariants.{Outbound, Inbound}
-use Rattle.time_space.specs.Failing.{Fails}
+use Rattle.time_space.specs.Failing.{BaseFails, Fails}
 use Rattle.time_space.specs.declared.failing.Failing.{Failing}
 use Rattle.time_space.specs.declared.failing.Failing.TheVariants as rule
 use Rattle.band_measure.specs.Widest.{IsWidestBand}
@@ -65,7 +65,7 @@ use Rattle.run_inputs.specs.declared.cause.Cause.{Cause}
 use Rattle.run_inputs.specs.declared.cause.Cause.TheVariants as cause
 
 -- ---- bands
--- `bands` with status 0: the timing of the second file keeps the rules of the artery of the first that speak of no band, and these are the widest bands on its offsets,
+-- `bands` with status 0: the base of the second file's timing keeps the rules of the artery of the first, and these are the widest bands on its offsets,
 -- over all finer grids
 pub record SaysWidest (before now : Outside) (artery timing : List ℕ) : Type 0 where
   pub street : Street
@@ -74,20 +74,20 @@ pub record SaysWidest (before now : Outside) (artery timing : List ℕ) : Type 0
   pub inbound : Option Widest
   pub description : Reads Description (before.holds artery) street
   pub text : Reads Timing (before.holds timing) plan
-  pub base : IsBase street plan
-  pub outbound_is : IsWidestBand street plan Outbound outbound
-  pub inbound_is : IsWidestBand street plan Inbound inbound
+  pub outbound_is : IsWidestBand street (base plan) Outbound outbound
+  pub inbound_is : IsWidestBand street (base plan) Inbound inbound
+  pub base : IsBase street (base plan)
   pub told : Appends before.taken now.taken (widest_line street plan Outbound outbound ++ widest_line street plan Inbound inbound)
 
--- `bands` and `half` with status 4: this rule that speaks of no band fails, and no file has changed
+-- `bands` and `half` with status 4: this rule of the base fails, and no file has changed
 pub record SaysNoBase (before now : Outside) (artery timing : List ℕ) (c : Cause) : Type 0 where
   pub street : Street
   pub plan : TimingRecord
   pub failing : Failing
   pub description : Reads Description (before.holds artery) street
   pub text : Reads Timing (before.holds timing) plan
-  pub fails : Fails street plan failing
-  pub not_base : ¬ IsBase street plan
+  pub fails : BaseFails street (base plan) failing
+  pub not_base : ¬ IsBase street (base plan)
   pub cause_is : c ≡ cause.Fails failing
   pub kept : SameFiles before.holds now.holds
 
@@ -110,13 +110,13 @@ pub record SaysNoHalf (before now : Outside) (a : Street) (t : TimingRecord) : T
   pub kept : SameFiles before.holds now.holds
   pub told : Appends before.taken now.taken (codes "no equal band\n")
 
--- `half` with status 0: one of the two, of a timing that keeps the rules that speak of no band
+-- `half` with status 0: one of the two, of a timing whose base keeps its rules
 pub record SaysHalf (before now : Outside) (artery timing new : List ℕ) : Type 0 where
   pub street : Street
   pub plan : TimingRecord
   pub description : Reads Description (before.holds artery) street
   pub text : Reads Timing (before.holds timing) plan
-  pub base : IsBase street plan
+  pub base : IsBase street (base plan)
   pub found : SaysNoHalf before now street plan ⊎ PutsHalf before now street plan new
 
 -- `half` with status 11: the timing can have no half-cycle plan, for this first reason, and no file has changed
@@ -126,7 +126,7 @@ pub record SaysUnmatched (before now : Outside) (artery timing : List ℕ) (c : 
   pub reason : HalfEnd
   pub description : Reads Description (before.holds artery) street
   pub text : Reads Timing (before.holds timing) plan
-  pub base : IsBase street plan
+  pub base : IsBase street (base plan)
   pub first : half.Ends street plan reason
   pub not_ready : ¬ half.IsReady street plan
   pub cause_is : c ≡ cause.Unmatched reason
@@ -145,7 +145,7 @@ pub record PutsPlan (before now : Outside) (a : Street) (given : TimingRecord) (
   pub seconds : ℕ
   pub offsets : List ℕ
   pub loss : ℚ
-  pub planned : IsPlanned a given seconds offsets timing
+  pub planned : IsPlanned a (base given) seconds offsets timing
   pub cycle_is : cycle_seconds a timing ≡ number seconds
   pub offsets_are : (i : ℕ) → HasSignal a i → offset a timing i ≡ number (slice_index offsets (i - 1))
   pub good : Good a timing

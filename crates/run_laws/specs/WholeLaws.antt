@@ -5,7 +5,7 @@ use Rattle.outer_edge.specs.Held.{SameFiles, HoldsExactly}
 use Rattle.outer_edge.specs.Taken.{Appends}
 use Rattle.progression.specs.Street.{Street, HasSignal}
 use Rattle.progression.specs.Speeds.{number}
-use Rattle.progression.specs.TimingRecord.{TimingRecord}
+use Rattle.progression.specs.TimingRecord.{TimingRecord, base}
 use Rattle.progression.specs.Good.{Good}
 use Rattle.progression.specs.Best.{weighted_band}
 use Rattle.timing_measures.specs.Measures.{cycle_seconds, offset}
@@ -56,7 +56,7 @@ pub record PutsWhole (before now : Outside) (artery certificate plan : List ℕ)
   pub offsets_are : (i : ℕ) → HasSignal street i → offset street made.timing i ≡ number (slice_index made.offsets.items (i - 1))
   pub good : Good street made.timing
   pub best : IsBestOfRuns street made.timing
-  pub steady : IsSteady street start made.seconds made.offsets.items made.timing
+  pub steady : IsSteady street (base start) made.seconds made.offsets.items made.timing
   pub lost : (s : TimingRecord) → Good street s → weighted_band street s ≤ℚ (weighted_band street made.timing +ℚ made.loss)
   pub put : HoldsExactly (now.holds plan) (timing_text made.timing)
   pub read_back : timing_of (timing_text made.timing) ≡ Ok made.timing

@@ -5,13 +5,13 @@ ghost use Rattle.run_laws.specs.PlanLaws.{SweepSays, PlanIsHeld};
 ghost use Rattle.run_laws.specs.{LimitLaws.{SensitivitySays}, WholeLaws.{WholeSays}};
 
 /// A law over the definitions: after status 0 of `bands` the widest bands on the timing's offsets were printed, and after 4 a rule
-/// fails that speaks of no band.
+/// of the base fails.
 pub fn law_bands_say()
     ensures { BandsSay }
 {}
 
 /// A law over the definitions: after status 0 of `half` the file that it put has a timing with the widest equal bands over all
-/// offsets, or there are none on any grid and nothing was put; after 4 a rule fails that speaks of no band, and after 11 the timing
+/// offsets, or there are none on any grid and nothing was put; after 4 a rule of the base fails, and after 11 the timing
 /// can have no such plan; no file changed.
 pub fn law_half_says()
     ensures { HalfSays }

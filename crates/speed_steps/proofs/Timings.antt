@@ -7,7 +7,8 @@ use Rattle.rational_theory.specs.Rational.{ℚ, whole, ◌*ℚ◌, ◌-ℚ◌, �
 use Rattle.rational_theory.proofs.Order.{≤ℚ_trans, ≤ℚ-*ℚ, whole-≤ℤ}
 use Rattle.progression.specs.Street.{Street, count, HasLink, link_of, no_link, distance, speed, change_given}
 use Rattle.progression.specs.Speeds.{number, seconds, run_low, run_high, unit_length, change}
-use Rattle.progression.specs.TimingRecord.{TimingRecord, run}
+use Rattle.progression.specs.TimingRecord.{TimingRecord, base}
+use Rattle.progression.specs.BaseRecord.{run}
 use Rattle.progression.specs.Good.{Good, IsBase, pace_change}
 use Rattle.progression.specs.declared.parts.Head.{Head}
 use Rattle.progression.specs.declared.parts.Signal.{Signal}
@@ -44,30 +45,30 @@ module _ (h : Head) (s : List Signal) (l m : List Link) (t : TimingRecord) where
   grid_least : whole (pos 0) ≤ℚ number t.grid
   grid_least = whole-≤ℤ (pos 0) (pos t.grid) (omega (arith, ints))
 
-  pace_same : IsLooser tight loose → (d : Dir) (i : ℕ) → HasLink tight i → HasLink tight (i + 1) → pace_change tight t d i ≡ pace_change loose t d i
+  pace_same : IsLooser tight loose → (d : Dir) (i : ℕ) → HasLink tight i → HasLink tight (i + 1) → pace_change tight (base t) d i ≡ pace_change loose (base t) d i
   pace_same k d i at next =
-      ap₂ (λ x y. number (run t d (i + 1)) /ℚ number x -ℚ number (run t d i) /ℚ number y) (k.distances d (i + 1) next) (k.distances d i at)
+      ap₂ (λ x y. number (run (base t) d (i + 1)) /ℚ number x -ℚ number (run (base t) d i) /ℚ number y) (k.distances d (i + 1) next) (k.distances d i at)
 
   change_same : IsLooser tight loose → (d : Dir) (i : ℕ) → HasLink tight i → change tight d i ≡ change loose d i
   change_same k d i at =
       ap (λ o. option_map (λ (p : Pair). record { least = p.least /ℚ number (unit_length h.units); most = p.most /ℚ number (unit_length h.units) }) o) (k.changes d i at)
 
-  base_along : IsLooser tight loose → IsBase tight t → IsBase loose t
+  base_along : IsLooser tight loose → IsBase tight (base t) → IsBase loose (base t)
   base_along k b = record {
-    plan = b.plan;
+    formed = b.formed;
     shape = b.shape;
     patterns = b.patterns;
     cycle_least = b.cycle_least;
     cycle_most = b.cycle_most;
-    fast = λ d i at. ≤ℚ_trans (run_low loose d i *ℚ number t.grid) (run_low tight d i *ℚ number t.grid) (number (run t d i))
+    fast = λ d i at. ≤ℚ_trans (run_low loose d i *ℚ number t.grid) (run_low tight d i *ℚ number t.grid) (number (run (base t) d i))
         (≤ℚ-*ℚ (run_low loose d i) (run_low tight d i) (number t.grid) (k.low d i at) grid_least) (b.fast d i at);
-    slow = λ d i at. ≤ℚ_trans (number (run t d i)) (run_high tight d i *ℚ number t.grid) (run_high loose d i *ℚ number t.grid) (b.slow d i at)
+    slow = λ d i at. ≤ℚ_trans (number (run (base t) d i)) (run_high tight d i *ℚ number t.grid) (run_high loose d i *ℚ number t.grid) (b.slow d i at)
         (≤ℚ-*ℚ (run_high tight d i) (run_high loose d i) (number t.grid) (k.high d i at) grid_least);
     rise = λ d i at next.
-        subst (λ o. IfSome o (λ (c : Pair). pace_change loose t d i ≤ℚ (c.most *ℚ number t.grid))) (change_same k d i at)
+        subst (λ o. IfSome o (λ (c : Pair). pace_change loose (base t) d i ≤ℚ (c.most *ℚ number t.grid))) (change_same k d i at)
         (subst (λ x. IfSome (change tight d i) (λ (c : Pair). x ≤ℚ (c.most *ℚ number t.grid))) (pace_same k d i at next) (b.rise d i at next));
     drop = λ d i at next.
-        subst (λ o. IfSome o (λ (c : Pair). (c.least *ℚ number t.grid) ≤ℚ pace_change loose t d i)) (change_same k d i at)
+        subst (λ o. IfSome o (λ (c : Pair). (c.least *ℚ number t.grid) ≤ℚ pace_change loose (base t) d i)) (change_same k d i at)
         (subst (λ x. IfSome (change tight d i) (λ (c : Pair). (c.least *ℚ number t.grid) ≤ℚ x)) (pace_same k d i at next) (b.drop d i at next));
   }
 

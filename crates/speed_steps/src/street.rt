@@ -1,7 +1,7 @@
 //! The street with its limits moved.
 
-ghost use Rattle.std.specs.Prelude.{◌≡◌, ◌<◌, ◌≤◌, All, IfOk, map};
-ghost use Rattle.progression.specs.Street.{count};
+ghost use Rattle.std.specs.Prelude.{◌≡◌, ◌≤◌, All, IfOk, map};
+ghost use Rattle.progression.specs.Street.{count, HasLink};
 ghost use Rattle.artery_model.specs.Valid.{IsLink};
 ghost use Rattle.speed_steps.specs.Moved.{link_moved, street_moved, stays, link_changes, limits_changed};
 
@@ -50,8 +50,7 @@ pub fn street_moved(alloc: Global, way: Way, artery: &Artery) -> Result<Artery, 
 
 /// Whether none of a direction's limits can be moved.
 pub fn stays(way: Way, artery: &Artery, dir: Dir, link: u32) -> bool
-    requires first { 1 ≤ link }
-    requires last { link < count artery.now }
+    requires link { HasLink artery.now link }
     ensures { result ≡ stays way artery.now dir link }
 {
     artery.known_valid();

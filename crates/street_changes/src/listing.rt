@@ -1,7 +1,7 @@
 //! The list of the changes of a street.
 
-ghost use Rattle.std.specs.{Prelude.{◌≡◌, ◌+◌, ◌-◌, ◌++◌, ◌∷◌, [], ◌≤◌, ◌<◌, IfOk, OnOk}, List.{flat_map, range_with_len}};
-ghost use Rattle.progression.specs.Street.{count, signal_of, link_of};
+ghost use Rattle.std.specs.{Prelude.{◌≡◌, ◌+◌, ◌-◌, ◌++◌, ◌∷◌, [], ◌<◌, IfOk, OnOk}, List.{flat_map, range_with_len}};
+ghost use Rattle.progression.specs.Street.{count, signal_of, link_of, HasLink, HasSignal};
 ghost use Rattle.street_changes.specs.declared.limits.Change.TheVariants as Change;
 ghost use Rattle.street_changes.specs.Changes.{where_so, wants_patterns, signal_changes, speed_changes, street_changes, ends, pace_changes, changes};
 
@@ -155,16 +155,14 @@ fn push_paces(changes: &mut Vec<Change>, number: u32, link: &Link) -> Result<(),
 }
 
 fn push_signal_at(changes: &mut Vec<Change>, artery: &Artery, signal: u32) -> Result<(), Memory>
-    requires first { 1 ≤ signal }
-    requires last { signal ≤ count artery.now }
+    requires signal { HasSignal artery.now signal }
     ensures { OnOk result (changes.new.items ≡ changes.old.items ++ signal_changes signal (signal_of artery.now signal)) }
 {
     push_signal(changes, signal, &artery.signals()[signal as usize - 1])
 }
 
 fn push_paces_at(changes: &mut Vec<Change>, artery: &Artery, link: u32) -> Result<(), Memory>
-    requires first { 1 ≤ link }
-    requires last { link < count artery.now }
+    requires link { HasLink artery.now link }
     ensures { OnOk result (changes.new.items ≡ changes.old.items ++ pace_changes link (link_of artery.now link)) }
 {
     artery.known_valid();

@@ -7,7 +7,8 @@ use Rattle.progression.specs.Good.{Good}
 use Rattle.progression.specs.Green.{BandIsGreen, red_start, red_ticks}
 use Rattle.progression.specs.Lines.{IsGreenWay, stop, crossing}
 use Rattle.progression.specs.Street.{Street, count, red_parts, HasSignal}
-use Rattle.progression.specs.TimingRecord.{TimingRecord, cycle, band}
+use Rattle.progression.specs.TimingRecord.{TimingRecord, base, band}
+use Rattle.progression.specs.BaseRecord.{cycle}
 use Rattle.progression.specs.declared.parts.Dir.{Dir}
 use Rattle.progression.specs.declared.parts.Dir.TheVariants.{Outbound, Inbound}
 use Rattle.progression.proofs.Fits.{Fits, fits_from_band}
@@ -89,12 +90,12 @@ module _ (a : Street) (t : TimingRecord) (h : IsValid a) (g : Good a t) where
   green_at : (d : Dir) (j i : ℕ) → stop d (count a) j ≡ i → HasSignal a i → j < count a → IsGreenWay a t d → band t d ≤ green_parts a d i * t.unit
   green_at d j i e l k way =
       let r = red_bounds a h d i (omega (arith, l.0, l.1)) in
-      let unit = g.base.plan.unit in
-      let here = subst (λ n. BandIsGreen (cycle a t) (red_start a t d n) (red_ticks a t d n) (crossing a t d j) (band t d)) e (way j k) in
-      let some : 2 ≤ red_ticks a t d i = two_ticks (red_parts a d i) t.unit r.0 unit in
-      let less : red_ticks a t d i < cycle a t = below r.1 (omega (arith, unit)) in
+      let unit = g.base.formed.unit in
+      let here = subst (λ n. BandIsGreen (cycle a (base t)) (red_start a (base t) d n) (red_ticks a (base t) d n) (crossing a t d j) (band t d)) e (way j k) in
+      let some : 2 ≤ red_ticks a (base t) d i = two_ticks (red_parts a d i) t.unit r.0 unit in
+      let less : red_ticks a (base t) d i < cycle a (base t) = below r.1 (omega (arith, unit)) in
       fitting (green_parts a d i) (red_parts a d i) a.head.parts t.unit _ _ (omega (arith, r.1))
-      (fits_from_band (cycle a t) (red_ticks a t d i) (red_start a t d i) (crossing a t d j) (band t d) some less here)
+      (fits_from_band (cycle a (base t)) (red_ticks a (base t) d i) (red_start a (base t) d i) (crossing a t d j) (band t d) some less here)
 
   band_at : (d : Dir) (i : ℕ) → HasSignal a i → band t d ≤ green_parts a d i * t.unit
   band_at Outbound i l = green_at Outbound (i - 1) i (omega (arith, l.0)) l (omega (arith, l.0, l.1)) g.outbound

@@ -5,7 +5,8 @@ use Rattle.rational_theory.specs.Rational.{ℚ, whole, over, ◌<ℚ◌}
 use Rattle.progression.specs.Good.{Good}
 use Rattle.progression.specs.Speeds.{run_low, run_high}
 use Rattle.progression.specs.Street.{Street, count, red_parts, speed, HasSignal, HasLink}
-use Rattle.progression.specs.TimingRecord.{TimingRecord, cycle, band}
+use Rattle.progression.specs.TimingRecord.{TimingRecord, band}
+use Rattle.progression.specs.BaseRecord.{cycle}
 use Rattle.progression.specs.declared.parts.Dir.{Dir}
 use Rattle.artery_model.specs.Valid.{IsValid}
 use Rattle.street_words.specs.Streets.{name_of, green_parts}

@@ -1,8 +1,8 @@
 //! Whether the times of travel have a short grid.
 
-ghost use Rattle.std.specs.Prelude.{◌≡◌, ◌<◌, ◌≤◌, SomeIff};
+ghost use Rattle.std.specs.Prelude.{◌≡◌, ◌≤◌, SomeIff};
 ghost use Rattle.rational_theory.specs.Gcd.{lcm};
-ghost use Rattle.progression.specs.Street.{count};
+ghost use Rattle.progression.specs.Street.{count, HasLink};
 ghost use Rattle.street_words.specs.Warnings.{most_ticks, most_run_denominator, with_runs, has_long_fractions};
 
 use artery_model::{Artery, Dir};
@@ -28,8 +28,7 @@ fn with_denominator(ticks: u128, run: Frac) -> Option<u128>
 fn with_runs(artery: &Artery, ticks: u128, dir: Dir, link: u32) -> Option<u128>
     requires above { 1 ≤ ticks }
     requires short { ticks ≤ most_ticks }
-    requires first { 1 ≤ link }
-    requires last { link < count artery.now }
+    requires link { HasLink artery.now link }
     ensures { SomeIff result (with_runs artery.now ticks dir link ≤ most_ticks) (with_runs artery.now ticks dir link) }
 {
     match with_denominator(ticks, artery.run_low(dir, link)) {
@@ -42,8 +41,7 @@ fn with_runs(artery: &Artery, ticks: u128, dir: Dir, link: u32) -> Option<u128>
 fn with_link(artery: &Artery, ticks: u128, link: u32) -> Option<u128>
     requires above { 1 ≤ ticks }
     requires short { ticks ≤ most_ticks }
-    requires first { 1 ≤ link }
-    requires last { link < count artery.now }
+    requires link { HasLink artery.now link }
     ensures { let more = with_runs artery.now (with_runs artery.now ticks Dir.Outbound link) Dir.Inbound link in SomeIff result (more ≤ most_ticks) more }
 {
     match with_runs(artery, ticks, Dir::Outbound, link) {

@@ -1,7 +1,7 @@
 //! The line of a link.
 
-ghost use Rattle.std.specs.Prelude.{◌≡◌, ◌<◌, ◌≤◌, ◌++◌, OnOk};
-ghost use Rattle.progression.specs.Street.{count};
+ghost use Rattle.std.specs.Prelude.{◌≡◌, ◌++◌, OnOk};
+ghost use Rattle.progression.specs.Street.{HasLink};
 ghost use Rattle.street_words.specs.Streets.{way_text, between_text, link_line};
 
 use crate::numbers::{push_length, push_span};
@@ -14,8 +14,7 @@ use timing_words::dir_word;
 /// Writes the length and the times of travel of a direction.
 #[tactic(auto, unfolding(crate::specs::Streets::way_text))]
 fn push_way(out: &mut Vec<u8>, artery: &Artery, dir: Dir, link: u32) -> Result<(), Memory>
-    requires first { 1 ≤ link }
-    requires last { link < count artery.now }
+    requires link { HasLink artery.now link }
     ensures { OnOk result (out.new.items ≡ out.old.items ++ way_text artery.now dir link) }
 {
     push_text(out, dir_word(dir))?;
@@ -29,8 +28,7 @@ fn push_way(out: &mut Vec<u8>, artery: &Artery, dir: Dir, link: u32) -> Result<(
 /// Writes which signals a link joins.
 #[tactic(auto, unfolding(crate::specs::Streets::between_text))]
 fn push_between(out: &mut Vec<u8>, artery: &Artery, link: u32) -> Result<(), Memory>
-    requires first { 1 ≤ link }
-    requires last { link < count artery.now }
+    requires link { HasLink artery.now link }
     ensures { OnOk result (out.new.items ≡ out.old.items ++ between_text artery.now link) }
 {
     push_text(out, "link ")?;
@@ -45,8 +43,7 @@ fn push_between(out: &mut Vec<u8>, artery: &Artery, link: u32) -> Result<(), Mem
 /// Writes the line of a link.
 #[tactic(auto, unfolding(crate::specs::Streets::link_line))]
 pub fn push_link(out: &mut Vec<u8>, artery: &Artery, link: u32) -> Result<(), Memory>
-    requires first { 1 ≤ link }
-    requires last { link < count artery.now }
+    requires link { HasLink artery.now link }
     ensures { OnOk result (out.new.items ≡ out.old.items ++ link_line artery.now link) }
 {
     push_between(out, artery, link)?;

@@ -1,7 +1,7 @@
 //! Names that people read as one.
 
-ghost use Rattle.std.specs.Prelude.{◌≡◌, ◌<◌, ◌≤◌, IfOk};
-ghost use Rattle.progression.specs.Street.{count};
+ghost use Rattle.std.specs.Prelude.{◌≡◌, IfOk};
+ghost use Rattle.progression.specs.Street.{HasLink};
 ghost use Rattle.street_words.specs.Warnings.{plain_name, are_alike};
 
 use crate::words::next_signal;
@@ -25,8 +25,7 @@ fn plain_name(alloc: Global, name: &str) -> Result<Vec<u8>, Memory>
 
 /// Whether the names of a signal and the next one are such.
 pub fn are_alike(alloc: Global, artery: &Artery, signal: u32) -> Result<bool, Memory>
-    requires first { 1 ≤ signal }
-    requires last { signal < count artery.now }
+    requires signal { HasLink artery.now signal }
     ensures { IfOk result (λ alike. alike ≡ are_alike artery.now signal) }
 {
     let name = plain_name(alloc, signal_name(artery, signal))?;

@@ -1,7 +1,7 @@
 //! Left turn patterns in words.
 
-ghost use Rattle.std.specs.Prelude.{◌≡◌, ◌≤◌, ◌++◌, OnOk, if◌then◌else◌, codes};
-ghost use Rattle.progression.specs.Street.{count};
+ghost use Rattle.std.specs.Prelude.{◌≡◌, ◌++◌, OnOk, if◌then◌else◌, codes};
+ghost use Rattle.progression.specs.Street.{HasSignal};
 ghost use Rattle.street_words.specs.Patterns.{turn_name, turn_text, turn_gap, pattern_words};
 
 use artery_model::{Artery, Dir};
@@ -35,8 +35,7 @@ fn push_turn(
     signal: u32,
     pattern: u32,
 ) -> Result<(), Memory>
-    requires first { 1 ≤ signal }
-    requires last { signal ≤ count artery.now }
+    requires signal { HasSignal artery.now signal }
     ensures { OnOk result (out.new.items ≡ out.old.items ++ turn_text artery.now dir signal pattern) }
 {
     if artery.left_against(dir, signal) == 0 {
@@ -65,8 +64,7 @@ pub fn push_pattern_words(
     signal: u32,
     pattern: u32,
 ) -> Result<(), Memory>
-    requires first { 1 ≤ signal }
-    requires last { signal ≤ count artery.now }
+    requires signal { HasSignal artery.now signal }
     ensures { OnOk result (out.new.items ≡ out.old.items ++ pattern_words artery.now signal pattern) }
 {
     let outbound = artery.left_against(Dir::Inbound, signal);

@@ -1,7 +1,7 @@
 //! The rules of the warnings.
 
 ghost use Rattle.std.specs.Prelude.{◌≡◌, ◌<◌, ◌≤◌, pos, ◌≤ℤ◌, ◌^◌, IfOk};
-ghost use Rattle.progression.specs.Street.{count, speed};
+ghost use Rattle.progression.specs.Street.{speed, HasLink, HasSignal};
 ghost use Rattle.street_words.specs.Laws.{IsOf};
 ghost use Rattle.street_words.specs.Warnings.{fastest, slowest, takes_little, takes_long, is_fast, is_slow, is_mostly_red, may_starve, applies};
 
@@ -18,16 +18,14 @@ pub const LEAST_TRAVEL: u32 = 3;
 pub const MOST_TRAVEL: u32 = 60;
 
 fn takes_little(artery: &Artery, dir: Dir, link: u32) -> bool
-    requires first { 1 ≤ link }
-    requires last { link < count artery.now }
+    requires link { HasLink artery.now link }
     ensures { result ≡ takes_little artery.now dir link }
 {
     artery.run_low(dir, link) < Frac::whole(i64::from(LEAST_TRAVEL))
 }
 
 fn takes_long(artery: &Artery, dir: Dir, link: u32) -> bool
-    requires first { 1 ≤ link }
-    requires last { link < count artery.now }
+    requires link { HasLink artery.now link }
     ensures { result ≡ takes_long artery.now dir link }
 {
     Frac::whole(i64::from(MOST_TRAVEL)) < artery.run_low(dir, link)
@@ -35,8 +33,7 @@ fn takes_long(artery: &Artery, dir: Dir, link: u32) -> bool
 
 /// The limits of a direction's speed.
 pub fn speeds(artery: &Artery, dir: Dir, link: u32) -> Pair
-    requires first { 1 ≤ link }
-    requires last { link < count artery.now }
+    requires link { HasLink artery.now link }
     ensures value { result ≡ speed artery.now dir link }
     ensures least { pos 0 ≤ℤ result.least.num }
     ensures least_denominator { result.least.den ≤ 2 ^ 120 }
@@ -72,24 +69,21 @@ pub fn slowest(units: Units) -> u32
 }
 
 fn is_fast(artery: &Artery, dir: Dir, link: u32) -> bool
-    requires first { 1 ≤ link }
-    requires last { link < count artery.now }
+    requires link { HasLink artery.now link }
     ensures { result ≡ is_fast artery.now dir link }
 {
     Frac::whole(i64::from(fastest(artery.head().units))) < speeds(artery, dir, link).most
 }
 
 fn is_slow(artery: &Artery, dir: Dir, link: u32) -> bool
-    requires first { 1 ≤ link }
-    requires last { link < count artery.now }
+    requires link { HasLink artery.now link }
     ensures { result ≡ is_slow artery.now dir link }
 {
     speeds(artery, dir, link).least < Frac::whole(i64::from(slowest(artery.head().units)))
 }
 
 fn is_mostly_red(artery: &Artery, dir: Dir, signal: u32) -> bool
-    requires first { 1 ≤ signal }
-    requires last { signal ≤ count artery.now }
+    requires signal { HasSignal artery.now signal }
     ensures { result ≡ is_mostly_red artery.now dir signal }
 {
     3 * artery.parts() < 4 * artery.red(dir, signal)

@@ -1,7 +1,7 @@
 //! The sentences of the warnings.
 
-ghost use Rattle.std.specs.{Prelude.{◌≡◌, ◌<◌, ◌≤◌, ◌++◌, OnOk}, Fmt.{decimal}};
-ghost use Rattle.progression.specs.{Street.{count, red_parts, speed}, Speeds.{run_low}};
+ghost use Rattle.std.specs.{Prelude.{◌≡◌, ◌<◌, ◌++◌, OnOk}, Fmt.{decimal}};
+ghost use Rattle.progression.specs.{Street.{count, red_parts, speed, HasLink, HasSignal}, Speeds.{run_low}};
 ghost use Rattle.street_words.specs.Numbers.{cut_tenths};
 ghost use Rattle.street_words.specs.Laws.{IsOf};
 ghost use Rattle.street_words.specs.Streets.{length_word, speed_word};
@@ -74,8 +74,7 @@ fn push_speed_question(out: &mut Vec<u8>, artery: &Artery) -> Result<(), Memory>
 
 /// Writes the time of travel at the greatest speed.
 fn push_run(out: &mut Vec<u8>, artery: &Artery, dir: Dir, link: u32) -> Result<(), Memory>
-    requires first { 1 ≤ link }
-    requires last { link < count artery.now }
+    requires link { HasLink artery.now link }
     ensures { OnOk result (out.new.items ≡ out.old.items ++ cut_tenths (run_low artery.now dir link)) }
 {
     push_cut_tenths(out, artery.run_low(dir, link))
@@ -100,8 +99,7 @@ fn push_travel(
     side: &str,
     limit: u32,
 ) -> Result<(), Memory>
-    requires first { 1 ≤ link }
-    requires last { link < count artery.now }
+    requires link { HasLink artery.now link }
     ensures { OnOk result (out.new.items ≡ out.old.items ++ travel_line artery.now dir link side.now limit) }
 {
     push_way(out, link, dir)?;
@@ -114,8 +112,7 @@ fn push_travel(
 
 /// Writes the greatest speed.
 fn push_greatest(out: &mut Vec<u8>, artery: &Artery, dir: Dir, link: u32) -> Result<(), Memory>
-    requires first { 1 ≤ link }
-    requires last { link < count artery.now }
+    requires link { HasLink artery.now link }
     ensures { OnOk result (out.new.items ≡ out.old.items ++ cut_tenths (speed artery.now dir link).most) }
 {
     let limits = speeds(artery, dir, link);
@@ -124,8 +121,7 @@ fn push_greatest(out: &mut Vec<u8>, artery: &Artery, dir: Dir, link: u32) -> Res
 
 /// Writes the least speed.
 fn push_least(out: &mut Vec<u8>, artery: &Artery, dir: Dir, link: u32) -> Result<(), Memory>
-    requires first { 1 ≤ link }
-    requires last { link < count artery.now }
+    requires link { HasLink artery.now link }
     ensures { OnOk result (out.new.items ≡ out.old.items ++ cut_tenths (speed artery.now dir link).least) }
 {
     let limits = speeds(artery, dir, link);
@@ -146,8 +142,7 @@ fn push_slowest(out: &mut Vec<u8>, artery: &Artery) -> Result<(), Memory>
 
 #[tactic(auto, unfolding(crate::specs::Warnings::fast_line))]
 fn push_fast(out: &mut Vec<u8>, artery: &Artery, dir: Dir, link: u32) -> Result<(), Memory>
-    requires first { 1 ≤ link }
-    requires last { link < count artery.now }
+    requires link { HasLink artery.now link }
     ensures { OnOk result (out.new.items ≡ out.old.items ++ fast_line artery.now dir link) }
 {
     push_way(out, link, dir)?;
@@ -160,8 +155,7 @@ fn push_fast(out: &mut Vec<u8>, artery: &Artery, dir: Dir, link: u32) -> Result<
 
 #[tactic(auto, unfolding(crate::specs::Warnings::slow_line))]
 fn push_slow(out: &mut Vec<u8>, artery: &Artery, dir: Dir, link: u32) -> Result<(), Memory>
-    requires first { 1 ≤ link }
-    requires last { link < count artery.now }
+    requires link { HasLink artery.now link }
     ensures { OnOk result (out.new.items ≡ out.old.items ++ slow_line artery.now dir link) }
 {
     push_way(out, link, dir)?;
@@ -174,8 +168,7 @@ fn push_slow(out: &mut Vec<u8>, artery: &Artery, dir: Dir, link: u32) -> Result<
 
 /// Writes how many parts a direction is red.
 fn push_red_parts(out: &mut Vec<u8>, artery: &Artery, dir: Dir, signal: u32) -> Result<(), Memory>
-    requires first { 1 ≤ signal }
-    requires last { signal ≤ count artery.now }
+    requires signal { HasSignal artery.now signal }
     ensures { OnOk result (out.new.items ≡ out.old.items ++ decimal (red_parts artery.now dir signal)) }
 {
     push_number(out, u128::from(artery.red(dir, signal)))
@@ -189,8 +182,7 @@ fn push_all_parts(out: &mut Vec<u8>, artery: &Artery) -> Result<(), Memory>
 
 #[tactic(auto, unfolding(crate::specs::Warnings::red_line))]
 fn push_red(out: &mut Vec<u8>, artery: &Artery, dir: Dir, signal: u32) -> Result<(), Memory>
-    requires first { 1 ≤ signal }
-    requires last { signal ≤ count artery.now }
+    requires signal { HasSignal artery.now signal }
     ensures { OnOk result (out.new.items ≡ out.old.items ++ red_line artery.now dir signal) }
 {
     push_signal(out, signal, dir)?;
@@ -215,8 +207,7 @@ fn push_pair(out: &mut Vec<u8>, artery: &Artery, signal: u32) -> Result<(), Memo
 
 #[tactic(auto, unfolding(crate::specs::Warnings::alike_line))]
 fn push_alike(out: &mut Vec<u8>, artery: &Artery, signal: u32) -> Result<(), Memory>
-    requires first { 1 ≤ signal }
-    requires last { signal < count artery.now }
+    requires signal { HasLink artery.now signal }
     ensures { OnOk result (out.new.items ≡ out.old.items ++ alike_line artery.now signal) }
 {
     push_pair(out, artery, signal)?;

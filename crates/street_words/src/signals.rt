@@ -1,7 +1,7 @@
 //! The lines of a signal.
 
 ghost use Rattle.std.specs.Prelude.{◌≡◌, ◌-◌, ◌≤◌, ◌++◌, OnOk};
-ghost use Rattle.progression.specs.Street.{count};
+ghost use Rattle.progression.specs.Street.{HasSignal};
 ghost use Rattle.artery_model.specs.Bounds.{most_parts};
 ghost use Rattle.street_words.specs.Numbers.{parts_span};
 ghost use Rattle.street_words.specs.Streets.{left_text, green_parts, greens_text, red_text, signal_line};
@@ -17,8 +17,7 @@ use quantity_text::{push_number, push_text};
 /// Writes the time of the left turn against a direction, where there is one.
 #[tactic(auto, unfolding(crate::specs::Streets::left_text))]
 fn push_left(out: &mut Vec<u8>, artery: &Artery, dir: Dir, signal: u32) -> Result<(), Memory>
-    requires first { 1 ≤ signal }
-    requires last { signal ≤ count artery.now }
+    requires signal { HasSignal artery.now signal }
     ensures { OnOk result (out.new.items ≡ out.old.items ++ left_text artery.now dir signal) }
 {
     let parts = artery.left_against(dir, signal);
@@ -33,8 +32,7 @@ fn push_left(out: &mut Vec<u8>, artery: &Artery, dir: Dir, signal: u32) -> Resul
 
 /// How many parts a direction's green takes.
 pub fn green_parts(artery: &Artery, dir: Dir, signal: u32) -> u32
-    requires first { 1 ≤ signal }
-    requires last { signal ≤ count artery.now }
+    requires signal { HasSignal artery.now signal }
     ensures value { result ≡ green_parts artery.now dir signal }
     ensures most { result ≤ most_parts }
 {
@@ -44,8 +42,7 @@ pub fn green_parts(artery: &Artery, dir: Dir, signal: u32) -> u32
 
 /// Writes a direction's green.
 fn push_green(out: &mut Vec<u8>, artery: &Artery, dir: Dir, signal: u32) -> Result<(), Memory>
-    requires first { 1 ≤ signal }
-    requires last { signal ≤ count artery.now }
+    requires signal { HasSignal artery.now signal }
     ensures { OnOk result (out.new.items ≡ out.old.items ++ parts_span artery.now (green_parts artery.now dir signal)) }
 {
     push_parts(out, artery, green_parts(artery, dir, signal))
@@ -53,8 +50,7 @@ fn push_green(out: &mut Vec<u8>, artery: &Artery, dir: Dir, signal: u32) -> Resu
 
 #[tactic(auto, unfolding(crate::specs::Streets::greens_text))]
 fn push_greens(out: &mut Vec<u8>, artery: &Artery, signal: u32) -> Result<(), Memory>
-    requires first { 1 ≤ signal }
-    requires last { signal ≤ count artery.now }
+    requires signal { HasSignal artery.now signal }
     ensures { OnOk result (out.new.items ≡ out.old.items ++ greens_text artery.now signal) }
 {
     push_text(out, ", green out ")?;
@@ -66,8 +62,7 @@ fn push_greens(out: &mut Vec<u8>, artery: &Artery, signal: u32) -> Result<(), Me
 
 #[tactic(auto, unfolding(crate::specs::Streets::red_text))]
 fn push_red(out: &mut Vec<u8>, artery: &Artery, signal: u32) -> Result<(), Memory>
-    requires first { 1 ≤ signal }
-    requires last { signal ≤ count artery.now }
+    requires signal { HasSignal artery.now signal }
     ensures { OnOk result (out.new.items ≡ out.old.items ++ red_text artery.now signal) }
 {
     push_text(out, "signal ")?;
@@ -81,8 +76,7 @@ fn push_red(out: &mut Vec<u8>, artery: &Artery, signal: u32) -> Result<(), Memor
 
 #[tactic(auto, unfolding(crate::specs::Streets::signal_line))]
 fn push_signal_line(out: &mut Vec<u8>, artery: &Artery, signal: u32) -> Result<(), Memory>
-    requires first { 1 ≤ signal }
-    requires last { signal ≤ count artery.now }
+    requires signal { HasSignal artery.now signal }
     ensures { OnOk result (out.new.items ≡ out.old.items ++ signal_line artery.now signal) }
 {
     push_red(out, artery, signal)?;
@@ -94,8 +88,7 @@ fn push_signal_line(out: &mut Vec<u8>, artery: &Artery, signal: u32) -> Result<(
 /// Writes a pattern in words, where it is allowed.
 #[tactic(auto, unfolding(crate::specs::Streets::pattern_item))]
 fn push_item(out: &mut Vec<u8>, artery: &Artery, signal: u32, pattern: u32) -> Result<(), Memory>
-    requires first { 1 ≤ signal }
-    requires last { signal ≤ count artery.now }
+    requires signal { HasSignal artery.now signal }
     ensures { OnOk result (out.new.items ≡ out.old.items ++ pattern_item artery.now signal pattern) }
 {
     if !artery.allows(signal, pattern) {
@@ -109,8 +102,7 @@ fn push_item(out: &mut Vec<u8>, artery: &Artery, signal: u32, pattern: u32) -> R
 
 #[tactic(auto, unfolding(crate::specs::Streets::pattern_items))]
 fn push_items(out: &mut Vec<u8>, artery: &Artery, signal: u32) -> Result<(), Memory>
-    requires first { 1 ≤ signal }
-    requires last { signal ≤ count artery.now }
+    requires signal { HasSignal artery.now signal }
     ensures { OnOk result (out.new.items ≡ out.old.items ++ pattern_items artery.now signal) }
 {
     push_item(out, artery, signal, 1)?;
@@ -121,8 +113,7 @@ fn push_items(out: &mut Vec<u8>, artery: &Artery, signal: u32) -> Result<(), Mem
 
 #[tactic(auto, unfolding(crate::specs::Streets::patterns_line))]
 fn push_patterns_line(out: &mut Vec<u8>, artery: &Artery, signal: u32) -> Result<(), Memory>
-    requires first { 1 ≤ signal }
-    requires last { signal ≤ count artery.now }
+    requires signal { HasSignal artery.now signal }
     ensures { OnOk result (out.new.items ≡ out.old.items ++ patterns_line artery.now signal) }
 {
     push_text(out, "left turns of signal ")?;
@@ -132,8 +123,7 @@ fn push_patterns_line(out: &mut Vec<u8>, artery: &Artery, signal: u32) -> Result
 }
 
 fn has_left(artery: &Artery, signal: u32) -> bool
-    requires first { 1 ≤ signal }
-    requires last { signal ≤ count artery.now }
+    requires signal { HasSignal artery.now signal }
     ensures { result ≡ has_left artery.now signal }
 {
     artery.left_against(Dir::Inbound, signal) != 0
@@ -141,8 +131,7 @@ fn has_left(artery: &Artery, signal: u32) -> bool
 }
 
 fn push_patterns(out: &mut Vec<u8>, artery: &Artery, signal: u32) -> Result<(), Memory>
-    requires first { 1 ≤ signal }
-    requires last { signal ≤ count artery.now }
+    requires signal { HasSignal artery.now signal }
     ensures { OnOk result (out.new.items ≡ out.old.items ++ patterns_lines artery.now signal) }
 {
     if has_left(artery, signal) {
@@ -155,8 +144,7 @@ fn push_patterns(out: &mut Vec<u8>, artery: &Artery, signal: u32) -> Result<(), 
 /// Writes the lines of a signal.
 #[tactic(auto, unfolding(crate::specs::Streets::signal_lines))]
 pub fn push_signal(out: &mut Vec<u8>, artery: &Artery, signal: u32) -> Result<(), Memory>
-    requires first { 1 ≤ signal }
-    requires last { signal ≤ count artery.now }
+    requires signal { HasSignal artery.now signal }
     ensures { OnOk result (out.new.items ≡ out.old.items ++ signal_lines artery.now signal) }
 {
     push_signal_line(out, artery, signal)?;

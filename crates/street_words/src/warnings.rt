@@ -1,7 +1,7 @@
 //! The warnings of a street.
 
-ghost use Rattle.std.specs.{Prelude.{◌≡◌, ◌-◌, ◌<◌, ◌≤◌, ◌++◌, OnOk}, List.{flat_map, range_with_len}};
-ghost use Rattle.progression.specs.Street.{count};
+ghost use Rattle.std.specs.{Prelude.{◌≡◌, ◌-◌, ◌++◌, OnOk}, List.{flat_map, range_with_len}};
+ghost use Rattle.progression.specs.Street.{count, HasLink, HasSignal};
 ghost use Rattle.street_words.specs.Laws.{IsOf};
 ghost use Rattle.street_words.specs.Warnings.{told, way_warnings, link_warnings, signal_warnings, name_warnings, street_warnings, warning_lines};
 
@@ -25,8 +25,7 @@ fn push_told(out: &mut Vec<u8>, artery: &Artery, warning: Warning) -> Result<(),
 }
 
 fn push_of_way(out: &mut Vec<u8>, artery: &Artery, dir: Dir, link: u32) -> Result<(), Memory>
-    requires first { 1 ≤ link }
-    requires last { link < count artery.now }
+    requires link { HasLink artery.now link }
     ensures { OnOk result (out.new.items ≡ out.old.items ++ flat_map (told artery.now) (way_warnings dir link)) }
 {
     push_told(out, artery, Warning::TakesLittle { dir, link })?;
@@ -36,8 +35,7 @@ fn push_of_way(out: &mut Vec<u8>, artery: &Artery, dir: Dir, link: u32) -> Resul
 }
 
 fn push_of_link(out: &mut Vec<u8>, artery: &Artery, link: u32) -> Result<(), Memory>
-    requires first { 1 ≤ link }
-    requires last { link < count artery.now }
+    requires link { HasLink artery.now link }
     ensures { OnOk result (out.new.items ≡ out.old.items ++ flat_map (told artery.now) (link_warnings link)) }
 {
     push_of_way(out, artery, Dir::Outbound, link)?;
@@ -45,8 +43,7 @@ fn push_of_link(out: &mut Vec<u8>, artery: &Artery, link: u32) -> Result<(), Mem
 }
 
 fn push_of_signal(out: &mut Vec<u8>, artery: &Artery, signal: u32) -> Result<(), Memory>
-    requires first { 1 ≤ signal }
-    requires last { signal ≤ count artery.now }
+    requires signal { HasSignal artery.now signal }
     ensures { OnOk result (out.new.items ≡ out.old.items ++ flat_map (told artery.now) (signal_warnings signal)) }
 {
     let dir = Dir::Outbound;
@@ -56,8 +53,7 @@ fn push_of_signal(out: &mut Vec<u8>, artery: &Artery, signal: u32) -> Result<(),
 }
 
 fn push_of_name(out: &mut Vec<u8>, artery: &Artery, signal: u32) -> Result<(), Memory>
-    requires first { 1 ≤ signal }
-    requires last { signal < count artery.now }
+    requires signal { HasLink artery.now signal }
     ensures { OnOk result (out.new.items ≡ out.old.items ++ flat_map (told artery.now) (name_warnings signal)) }
 {
     push_told(out, artery, Warning::AlikeNames { signal })

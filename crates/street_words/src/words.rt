@@ -1,7 +1,7 @@
 //! Words of units, and what a signal is called.
 
-ghost use Rattle.std.specs.Prelude.{◌≡◌, ◌+◌, ◌<◌, ◌≤◌, ◌++◌, OnOk};
-ghost use Rattle.progression.specs.Street.{count};
+ghost use Rattle.std.specs.Prelude.{◌≡◌, ◌+◌, ◌<◌, ◌++◌, OnOk};
+ghost use Rattle.progression.specs.Street.{count, HasSignal};
 ghost use Rattle.street_words.specs.Streets.{name_of, length_word, speed_word};
 
 use artery_model::{Artery, Units};
@@ -39,8 +39,7 @@ pub fn next_signal(artery: &Artery, signal: u32) -> u32
 
 /// Writes the name of a signal.
 pub fn push_name(out: &mut Vec<u8>, artery: &Artery, signal: u32) -> Result<(), Memory>
-    requires first { 1 ≤ signal }
-    requires last { signal ≤ count artery.now }
+    requires signal { HasSignal artery.now signal }
     ensures { OnOk result (out.new.items ≡ out.old.items ++ name_of artery.now signal) }
 {
     push_text(out, signal_name(artery, signal))

@@ -1,13 +1,11 @@
 //! What a text still owes, line by line.
 
 ghost use Rattle.std.specs.Prelude.{◌≡◌, ◌≤◌, ◌<◌, ◌+◌, ◌^◌, ◌-◌};
-ghost use Rattle.plan_text.specs.Numbers.{number};
 ghost use Rattle.text_words.specs.Owed.{lines_after, after_node, next_tree, in_trees, in_names, after_line, owed_after, trees_of};
 
 use crate::lines::{FEED, first_word, is_text, last_word};
 use file_kind::{after, before};
-use plan_text::is_numeral;
-use time_space::LIMIT;
+use plan_text::number;
 
 /// What a text still owes.
 #[derive(Clone, Copy, Debug, PartialEq, Eq)]
@@ -20,22 +18,6 @@ pub enum Owed {
     Trees { lines: u128, trees: u128 },
     /// Nothing.
     Nothing,
-}
-
-/// The number below the limit that a word spells.
-fn number(word: &[u8]) -> Option<u128>
-    ensures { result ≡ number word.now }
-{
-    if !is_numeral(word) {
-        return None;
-    }
-    let Ok(text) = std::str::from_utf8(word) else {
-        return None;
-    };
-    match text.parse::<u128>() {
-        Ok(number) if number < LIMIT => Some(number),
-        _ => None,
-    }
 }
 
 /// The number that the line `rows N`, or the first one of a leaf, ends with.

@@ -2,7 +2,8 @@
 use Rattle.std.specs.Prelude.{ℕ, ℤ, pos, ◌*◌}
 use Rattle.rational_theory.specs.Rational.{ℚ, over}
 use Rattle.progression.specs.Street.{Street, distance}
-use Rattle.progression.specs.TimingRecord.{TimingRecord, cycle, run, band, common_red}
+use Rattle.progression.specs.TimingRecord.{TimingRecord, base, band}
+use Rattle.progression.specs.BaseRecord.{cycle, run, common_red}
 use Rattle.progression.specs.Green.{since}
 use Rattle.progression.specs.declared.parts.Units.{Units}
 use Rattle.progression.specs.declared.parts.Units.TheVariants.{Metric, English}
@@ -10,7 +11,7 @@ use Rattle.progression.specs.declared.parts.Dir.{Dir}
 
 -- a band as a fraction of the cycle
 abbrev pub band_share : Street → TimingRecord → Dir → ℚ
-band_share a t d = over (pos (band t d)) (cycle a t)
+band_share a t d = over (pos (band t d)) (cycle a (base t))
 
 -- ---- moments
 -- so many ticks in seconds
@@ -18,15 +19,15 @@ abbrev pub seconds : TimingRecord → ℕ → ℚ
 seconds t ticks = over (pos ticks) t.grid
 
 abbrev pub cycle_seconds : Street → TimingRecord → ℚ
-cycle_seconds a t = seconds t (cycle a t)
+cycle_seconds a t = seconds t (cycle a (base t))
 
 -- how many ticks a tick comes after the last start of the common red of signal 1: from 0 to a cycle less one
 abbrev pub after_start : Street → TimingRecord → ℤ → ℕ
-after_start a t tick = since (cycle a t) (common_red t 1) tick
+after_start a t tick = since (cycle a (base t)) (common_red (base t) 1) tick
 
 -- how many seconds after the common red of signal 1 that of signal i starts, from 0 up to a cycle
 abbrev pub offset : Street → TimingRecord → ℕ → ℚ
-offset a t i = seconds t (after_start a t (common_red t i))
+offset a t i = seconds t (after_start a t (common_red (base t) i))
 
 -- ---- speeds
 -- The speed at which a distance takes so many ticks, with `grid` ticks in a second: 1 m/s is 18/5 km/h, and 1 foot a second is
@@ -36,4 +37,4 @@ speed_of Metric distance grid ticks = over (pos (18 * distance * grid)) (5 * tic
 speed_of English distance grid ticks = over (pos (15 * distance * grid)) (22 * ticks)
 
 abbrev pub link_speed : Street → TimingRecord → Dir → ℕ → ℚ
-link_speed a t d i = speed_of a.head.units (distance a d i) t.grid (run t d i)
+link_speed a t d i = speed_of a.head.units (distance a d i) t.grid (run (base t) d i)

@@ -2,8 +2,9 @@
 
 ghost use Rattle.std.specs.Prelude.{◌≡◌, ◌<◌, ◌≤◌, ◌^◌, pos, ◌≤ℤ◌, length, unsigned_abs, IfNone, IfSome};
 ghost use Rattle.rational_theory.specs.Rational.{over};
-ghost use Rattle.progression.specs.{Street.{count, signal_of}, TimingRecord.{cycle, run}, Good.{IsBase}};
+ghost use Rattle.progression.specs.{Street.{count, signal_of, HasLink, HasSignal}, BaseRecord.{cycle, run}, Good.{IsBase}, TimingRecord.{base}};
 ghost use Rattle.timing_measures.specs.Measures.{band_share, seconds, cycle_seconds, after_start, offset, speed_of, link_speed};
+ghost use Rattle.time_space.specs.Timing.{IsFor};
 
 use artery_model::{Artery, Dir, Units};
 use narrow_fraction::Frac;
@@ -55,7 +56,7 @@ pub fn after_start(artery: &Artery, timing: &Timing, tick: i128) -> u128
     requires { unsigned_abs tick < 2 ^ 100 }
     ensures value { result ≡ after_start artery.now timing.now tick }
     ensures small { result < 2 ^ 92 }
-    ensures below { result < cycle artery.now timing.now }
+    ensures below { result < cycle artery.now (base timing.now) }
 {
     // a timing has a first signal
     let _ = timing.count();
@@ -76,10 +77,9 @@ pub fn offset(artery: &Artery, timing: &Timing, signal: u32) -> Frac
 
 /// The ticks that a direction's band takes on a link. There are some, since no speed limit allows none.
 fn run_ticks(artery: &Artery, timing: &Timing, dir: Dir, link: u32) -> u128
-    requires base { IsBase artery.now timing.now }
-    requires first { 1 ≤ link }
-    requires last { link < count artery.now }
-    ensures value { result ≡ run timing.now dir link }
+    requires base { IsBase artery.now (base timing.now) }
+    requires link { HasLink artery.now link }
+    ensures value { result ≡ run (base timing.now) dir link }
     ensures least { 1 ≤ result }
     ensures most { result < 2 ^ 80 }
 {
@@ -106,9 +106,8 @@ fn speed_of(units: Units, distance: u128, grid: u128, ticks: u128) -> Frac
 
 /// The speed of a direction's band on a link where so many ticks are its run, which are some.
 fn speed_over(artery: &Artery, timing: &Timing, dir: Dir, link: u32, ticks: u128) -> Frac
-    requires first { 1 ≤ link }
-    requires last { link < count artery.now }
-    requires run { ticks ≡ run timing.now dir link }
+    requires link { HasLink artery.now link }
+    requires run { ticks ≡ run (base timing.now) dir link }
     requires some { 1 ≤ ticks }
     requires small { ticks < 2 ^ 80 }
     ensures value { result ≡ link_speed artery.now timing.now dir link }
@@ -119,12 +118,10 @@ fn speed_over(artery: &Artery, timing: &Timing, dir: Dir, link: u32, ticks: u128
     speed_of(artery.head().units, distance, timing.grid(), ticks)
 }
 
-/// The speed of a direction's band on a link, in km/h or mph, as the description's units are. The timing keeps the rules that don't
-/// speak of bands.
+/// The speed of a direction's band on a link, in km/h or mph, as the description's units are. The base keeps its rules.
 pub fn link_speed(artery: &Artery, timing: &Timing, dir: Dir, link: u32) -> Frac
-    requires base { IsBase artery.now timing.now }
-    requires first { 1 ≤ link }
-    requires last { link < count artery.now }
+    requires base { IsBase artery.now (base timing.now) }
+    requires link { HasLink artery.now link }
     ensures value { result ≡ link_speed artery.now timing.now dir link }
     ensures least { pos 0 ≤ℤ result.num }
     ensures denominator { result.den ≤ 2 ^ 120 }
@@ -135,11 +132,10 @@ pub fn link_speed(artery: &Artery, timing: &Timing, dir: Dir, link: u32) -> Frac
 
 /// The same in any timing, or None where the run takes no tick.
 pub fn some_speed(artery: &Artery, timing: &Timing, dir: Dir, link: u32) -> Option<Frac>
-    requires shape { length timing.now.patterns ≡ count artery.now }
-    requires first { 1 ≤ link }
-    requires last { link < count artery.now }
-    ensures none { IfNone result (run timing.now dir link ≡ 0) }
-    ensures some { IfSome result (λ speed. 1 ≤ run timing.now dir link) }
+    requires shape { IsFor artery.now (base timing.now) }
+    requires link { HasLink artery.now link }
+    ensures none { IfNone result (run (base timing.now) dir link ≡ 0) }
+    ensures some { IfSome result (λ speed. 1 ≤ run (base timing.now) dir link) }
     ensures value { IfSome result (λ speed. speed ≡ link_speed artery.now timing.now dir link) }
     ensures least { IfSome result (λ speed. pos 0 ≤ℤ speed.num) }
     ensures denominator { IfSome result (λ speed. speed.den ≤ 2 ^ 120) }
@@ -153,8 +149,7 @@ pub fn some_speed(artery: &Artery, timing: &Timing, dir: Dir, link: u32) -> Opti
 
 /// The name of a signal.
 pub fn signal_name(artery: &Artery, signal: u32) -> &str
-    requires first { 1 ≤ signal }
-    requires last { signal ≤ count artery.now }
+    requires signal { HasSignal artery.now signal }
     ensures { result.now ≡ (signal_of artery.now signal).name }
 {
     artery.signals()[signal as usize - 1].name.as_str()

@@ -8,7 +8,8 @@ use Rattle.rational_theory.proofs.Order.{*ℚ_cancel, times_den}
 use Rattle.progression.specs.Speeds.{number}
 use Rattle.progression.specs.Street.{Street, HasSignal, red_parts}
 use Rattle.progression.specs.Green.{red_ticks}
-use Rattle.progression.specs.TimingRecord.{TimingRecord, cycle, run}
+use Rattle.progression.specs.TimingRecord.{TimingRecord, base}
+use Rattle.progression.specs.BaseRecord.{cycle, run}
 use Rattle.progression.specs.declared.parts.Dir.{Dir}
 use Rattle.artery_model.specs.Valid.{IsValid}
 use Rattle.time_space.proofs.FinerGrids.{red_bounds}
@@ -46,12 +47,12 @@ module _ (a : Street) (t : TimingRecord) (valid : IsValid a) (grid : 1 ≤ t.gri
       let c = cycle_seconds a t in
       let few = valid.least_parts in
       parts_of c n (unsigned_abs c.num) a.head.parts t.unit t.grid (omega (arith, few)) (omega (arith, grid))
-      (crossed c (unsigned_abs c.num) (cycle a t) t.grid (natural c.num (over_least (cycle a t) t.grid)) (over_ratio (pos (cycle a t)) t.grid (omega (arith, grid))))
+      (crossed c (unsigned_abs c.num) (cycle a (base t)) t.grid (natural c.num (over_least (cycle a (base t)) t.grid)) (over_ratio (pos (cycle a (base t))) t.grid (omega (arith, grid))))
 
-  run_is : (d : Dir) (i : ℕ) (x : ℚ) → Takes t d i x → x ≡ seconds t (run t d i)
-  run_is d i x e = sym (*ℚ_cancel (seconds t (run t d i)) x (number t.grid) (not_zero t.grid grid) (times_den (pos (run t d i)) t.grid (omega (arith, grid)) ∙ e))
+  run_is : (d : Dir) (i : ℕ) (x : ℚ) → Takes t d i x → x ≡ seconds t (run (base t) d i)
+  run_is d i x e = sym (*ℚ_cancel (seconds t (run (base t) d i)) x (number t.grid) (not_zero t.grid grid) (times_den (pos (run (base t) d i)) t.grid (omega (arith, grid)) ∙ e))
 
-  green_is : (d : Dir) (i : ℕ) → HasSignal a i → green_parts a d i * t.unit ≡ cycle a t - red_ticks a t d i
+  green_is : (d : Dir) (i : ℕ) → HasSignal a i → green_parts a d i * t.unit ≡ cycle a (base t) - red_ticks a (base t) d i
   green_is d i l =
       let r = red_bounds a valid d i (omega (arith, l.0, l.1)) in
       green_ticks (green_parts a d i) a.head.parts (red_parts a d i) t.unit (omega (arith, r.1))

@@ -1,7 +1,8 @@
 -- The moments of a sheet, in ticks after the last moment of signal 1 from which offsets count: from 0 to a cycle less one.
 use Rattle.std.specs.Prelude.{ℕ, ℤ, pos, ◌+ℤ◌}
 use Rattle.progression.specs.Street.{Street}
-use Rattle.progression.specs.TimingRecord.{TimingRecord, cycle, band}
+use Rattle.progression.specs.TimingRecord.{TimingRecord, base, band}
+use Rattle.progression.specs.BaseRecord.{cycle}
 use Rattle.progression.specs.Green.{since}
 use Rattle.progression.specs.Lines.{line_at}
 use Rattle.progression.specs.declared.parts.Dir.{Dir}
@@ -9,11 +10,11 @@ use Rattle.description_reader.specs.declared.measure.Reference.{Reference}
 use Rattle.typed_plan.specs.Asked.{moment}
 
 abbrev pub after_moment : Street → TimingRecord → Reference → ℤ → ℕ
-after_moment a t r tick = since (cycle a t) (moment a r t 1) tick
+after_moment a t r tick = since (cycle a (base t)) (moment a r (base t) 1) tick
 
 -- the offset of signal i: when its own moment comes
 abbrev pub offset_ticks : Street → TimingRecord → Reference → ℕ → ℕ
-offset_ticks a t r i = after_moment a t r (moment a r t i)
+offset_ticks a t r i = after_moment a t r (moment a r (base t) i)
 
 -- when the first line of a direction's band crosses signal i, and when the last does
 abbrev pub first_ticks : Street → TimingRecord → Reference → Dir → ℕ → ℕ

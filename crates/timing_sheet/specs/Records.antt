@@ -5,7 +5,8 @@ use Rattle.std.specs.Fmt.{decimal}
 use Rattle.csv.specs.Writing.{default_writer, row_text}
 use Rattle.progression.specs.Green.{red_ticks}
 use Rattle.progression.specs.Street.{Street, count, signal_of, left_against, distance}
-use Rattle.progression.specs.TimingRecord.{TimingRecord, cycle, run, pattern_of}
+use Rattle.progression.specs.TimingRecord.{TimingRecord, base}
+use Rattle.progression.specs.BaseRecord.{cycle, run, pattern_of}
 use Rattle.progression.specs.declared.parts.Units.{Units}
 use Rattle.progression.specs.declared.parts.Units.TheVariants.{Metric, English}
 use Rattle.progression.specs.declared.parts.Dir.{Dir}
@@ -31,7 +32,7 @@ head_text units = signal_heads ++ link_heads units
 
 -- the left turns of a signal under its pattern, the outbound one first, as far as there are such
 unfoldable pub pattern_text : Street → TimingRecord → ℕ → List ℕ
-pattern_text a t i = pattern_words a i (pattern_of t i)
+pattern_text a t i = pattern_words a i (pattern_of (base t) i)
 
 -- ---- fields of a signal
 -- so many parts of the cycle, in seconds
@@ -40,7 +41,7 @@ parts_text t parts = seconds_text t (parts * t.unit)
 
 -- a direction's green, which is what its red leaves of the cycle
 abbrev pub green_text : Street → TimingRecord → Dir → ℕ → List ℕ
-green_text a t d i = seconds_text t (cycle a t - red_ticks a t d i)
+green_text a t d i = seconds_text t (cycle a (base t) - red_ticks a (base t) d i)
 
 unfoldable pub name_fields : Street → TimingRecord → ℕ → List (List ℕ)
 name_fields a t i = decimal i ∷ name_cell (signal_of a i).name ∷ pattern_text a t i ∷ []
@@ -61,10 +62,10 @@ window_fields a t r d i = if has_band a t d then moment_text a t (seconds t (fir
 -- ---- fields of a link
 -- none where a run takes no time
 abbrev pub speed_text : Street → TimingRecord → Dir → ℕ → List ℕ
-speed_text a t d i = if run t d i == 0 then [] else tenths (link_speed a t d i)
+speed_text a t d i = if run (base t) d i == 0 then [] else tenths (link_speed a t d i)
 
 unfoldable pub way_fields : Street → TimingRecord → Dir → ℕ → List (List ℕ)
-way_fields a t d i = decimal (distance a d i) ∷ seconds_text t (run t d i) ∷ speed_text a t d i ∷ []
+way_fields a t d i = decimal (distance a d i) ∷ seconds_text t (run (base t) d i) ∷ speed_text a t d i ∷ []
 
 abbrev pub no_way_fields : List (List ℕ)
 no_way_fields = [] ∷ [] ∷ [] ∷ []

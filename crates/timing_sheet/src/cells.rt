@@ -1,10 +1,12 @@
 //! Fields of a record.
 
-ghost use Rattle.std.specs.{Prelude.{◌≡◌, ◌<◌, ◌≤◌, ◌*◌, ◌^◌, ◌++◌, ◌∷◌, [], OnOk, length}, Fmt.{decimal}};
-ghost use Rattle.progression.specs.Street.{count};
+ghost use Rattle.std.specs.{Prelude.{◌≡◌, ◌<◌, ◌*◌, ◌^◌, ◌++◌, ◌∷◌, [], OnOk}, Fmt.{decimal}};
+ghost use Rattle.progression.specs.Street.{HasLink, HasSignal};
 ghost use Rattle.timing_measures.specs.Measures.{seconds};
 ghost use Rattle.timing_words.specs.Numbers.{seconds_text, moment_text};
 ghost use Rattle.timing_sheet.specs.{Records.{parts_text, pattern_text, green_text, speed_text}};
+ghost use Rattle.time_space.specs.Timing.{IsFor};
+ghost use Rattle.progression.specs.TimingRecord.{base};
 
 use crate::pattern::push_pattern;
 use artery_model::{Artery, Dir};
@@ -83,9 +85,8 @@ pub fn push_pattern_cell(
     timing: &Timing,
     signal: u32,
 ) -> Result<(), Memory>
-    requires shape { length timing.now.patterns ≡ count artery.now }
-    requires first { 1 ≤ signal }
-    requires last { signal ≤ count artery.now }
+    requires shape { IsFor artery.now (base timing.now) }
+    requires signal { HasSignal artery.now signal }
     ensures { OnOk result (record.new ≡ record.old ++ pattern_text artery.now timing.now signal ∷ []) }
 {
     let mut cell = Vec::new(alloc);
@@ -102,8 +103,7 @@ pub fn push_green(
     dir: Dir,
     signal: u32,
 ) -> Result<(), Memory>
-    requires first { 1 ≤ signal }
-    requires last { signal ≤ count artery.now }
+    requires signal { HasSignal artery.now signal }
     ensures { OnOk result (record.new ≡ record.old ++ green_text artery.now timing.now dir signal ∷ []) }
 {
     let red = red_ticks(artery, timing, dir, signal);
@@ -119,9 +119,8 @@ pub fn push_speed(
     dir: Dir,
     link: u32,
 ) -> Result<(), Memory>
-    requires shape { length timing.now.patterns ≡ count artery.now }
-    requires first { 1 ≤ link }
-    requires last { link < count artery.now }
+    requires shape { IsFor artery.now (base timing.now) }
+    requires link { HasLink artery.now link }
     ensures { OnOk result (record.new ≡ record.old ++ speed_text artery.now timing.now dir link ∷ []) }
 {
     let mut cell = Vec::new(alloc);
@@ -137,9 +136,8 @@ fn push_some_speed(
     dir: Dir,
     link: u32,
 ) -> Result<(), Memory>
-    requires shape { length timing.now.patterns ≡ count artery.now }
-    requires first { 1 ≤ link }
-    requires last { link < count artery.now }
+    requires shape { IsFor artery.now (base timing.now) }
+    requires link { HasLink artery.now link }
     ensures { OnOk result (out.new.items ≡ out.old.items ++ speed_text artery.now timing.now dir link) }
 {
     match some_speed(artery, timing, dir, link) {

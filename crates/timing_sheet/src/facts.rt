@@ -1,8 +1,9 @@
 //! The lines on the cycle and the bands.
 
-ghost use Rattle.std.specs.Prelude.{◌≡◌, ◌++◌, OnOk, length};
-ghost use Rattle.progression.specs.Street.{count};
+ghost use Rattle.std.specs.Prelude.{◌≡◌, ◌++◌, OnOk};
 ghost use Rattle.timing_sheet.specs.Facts.{band_name, cycle_line, width_line, no_band_line, band_line, facts_text};
+ghost use Rattle.time_space.specs.Timing.{IsFor};
+ghost use Rattle.progression.specs.TimingRecord.{base};
 
 use artery_model::{Artery, Dir};
 use narrow_fraction::Memory;
@@ -64,7 +65,7 @@ fn push_band_line(
     timing: &Timing,
     dir: Dir,
 ) -> Result<(), Memory>
-    requires { length timing.now.patterns ≡ count artery.now }
+    requires { IsFor artery.now (base timing.now) }
     ensures { OnOk result (out.new.items ≡ out.old.items ++ band_line artery.now timing.now dir) }
 {
     if has_band(artery, timing, dir) {
@@ -78,7 +79,7 @@ fn push_band_line(
 /// line each.
 #[tactic(auto, unfolding(crate::specs::Facts::facts_text))]
 pub fn push_facts(out: &mut Vec<u8>, artery: &Artery, timing: &Timing) -> Result<(), Memory>
-    requires { length timing.now.patterns ≡ count artery.now }
+    requires { IsFor artery.now (base timing.now) }
     ensures { OnOk result (out.new.items ≡ out.old.items ++ facts_text artery.now timing.now) }
 {
     push_cycle_line(out, artery, timing)?;

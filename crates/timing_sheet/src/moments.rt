@@ -1,9 +1,10 @@
 //! Moments after that of signal 1.
 
-ghost use Rattle.std.specs.Prelude.{◌≡◌, ◌<◌, ◌≤◌, ◌^◌, pos, ◌+ℤ◌, length, unsigned_abs};
-ghost use Rattle.progression.specs.{Street.{count}, Lines.{line_at}, TimingRecord.{band}};
+ghost use Rattle.std.specs.Prelude.{◌≡◌, ◌<◌, ◌^◌, pos, ◌+ℤ◌, unsigned_abs};
+ghost use Rattle.progression.specs.{Street.{count, HasSignal}, Lines.{line_at}, TimingRecord.{band, base}};
 ghost use Rattle.typed_plan.specs.Asked.{green_start, moment};
 ghost use Rattle.timing_sheet.specs.Moments.{after_moment, offset_ticks, first_ticks, last_ticks};
+ghost use Rattle.time_space.specs.Timing.{IsFor};
 
 use artery_model::{Artery, Dir};
 use description_reader::Reference;
@@ -11,10 +12,9 @@ use time_space::{Timing, cycle, line_at, red_start, red_ticks, since_start};
 
 /// The tick at which a direction's green starts, as its red ends.
 fn green_start(artery: &Artery, timing: &Timing, dir: Dir, signal: u32) -> i128
-    requires shape { length timing.now.patterns ≡ count artery.now }
-    requires first { 1 ≤ signal }
-    requires last { signal ≤ count artery.now }
-    ensures value { result ≡ green_start artery.now timing.now dir signal }
+    requires shape { IsFor artery.now (base timing.now) }
+    requires signal { HasSignal artery.now signal }
+    ensures value { result ≡ green_start artery.now (base timing.now) dir signal }
     ensures near { unsigned_abs result < 2 ^ 94 }
 {
     let red = red_ticks(artery, timing, dir, signal);
@@ -23,10 +23,9 @@ fn green_start(artery: &Artery, timing: &Timing, dir: Dir, signal: u32) -> i128
 
 /// The tick at which the green starts that starts first.
 fn first_green(artery: &Artery, timing: &Timing, signal: u32) -> i128
-    requires shape { length timing.now.patterns ≡ count artery.now }
-    requires first { 1 ≤ signal }
-    requires last { signal ≤ count artery.now }
-    ensures value { result ≡ moment artery.now Reference.FirstGreen timing.now signal }
+    requires shape { IsFor artery.now (base timing.now) }
+    requires signal { HasSignal artery.now signal }
+    ensures value { result ≡ moment artery.now Reference.FirstGreen (base timing.now) signal }
     ensures near { unsigned_abs result < 2 ^ 94 }
 {
     let outbound = green_start(artery, timing, Dir::Outbound, signal);
@@ -36,10 +35,9 @@ fn first_green(artery: &Artery, timing: &Timing, signal: u32) -> i128
 
 /// The tick at which the moment of a signal comes from which its offset counts.
 fn moment(artery: &Artery, timing: &Timing, reference: Reference, signal: u32) -> i128
-    requires shape { length timing.now.patterns ≡ count artery.now }
-    requires first { 1 ≤ signal }
-    requires last { signal ≤ count artery.now }
-    ensures value { result ≡ moment artery.now reference timing.now signal }
+    requires shape { IsFor artery.now (base timing.now) }
+    requires signal { HasSignal artery.now signal }
+    ensures value { result ≡ moment artery.now reference (base timing.now) signal }
     ensures near { unsigned_abs result < 2 ^ 94 }
 {
     match reference {
@@ -54,7 +52,7 @@ fn moment(artery: &Artery, timing: &Timing, reference: Reference, signal: u32) -
 
 /// How many ticks a tick comes after the last such moment of signal 1.
 fn after_moment(artery: &Artery, timing: &Timing, reference: Reference, tick: i128) -> u128
-    requires shape { length timing.now.patterns ≡ count artery.now }
+    requires shape { IsFor artery.now (base timing.now) }
     requires tick { unsigned_abs tick < 2 ^ 100 }
     ensures value { result ≡ after_moment artery.now timing.now reference tick }
     ensures small { result < 2 ^ 92 }
@@ -70,9 +68,8 @@ fn after_moment(artery: &Artery, timing: &Timing, reference: Reference, tick: i1
 
 /// The offset of a signal: how many ticks after that of signal 1 its own moment comes.
 pub fn offset_ticks(artery: &Artery, timing: &Timing, reference: Reference, signal: u32) -> u128
-    requires shape { length timing.now.patterns ≡ count artery.now }
-    requires first { 1 ≤ signal }
-    requires last { signal ≤ count artery.now }
+    requires shape { IsFor artery.now (base timing.now) }
+    requires signal { HasSignal artery.now signal }
     ensures value { result ≡ offset_ticks artery.now timing.now reference signal }
     ensures small { result < 2 ^ 92 }
 {
@@ -92,9 +89,8 @@ pub fn first_ticks(
     dir: Dir,
     signal: u32,
 ) -> u128
-    requires shape { length timing.now.patterns ≡ count artery.now }
-    requires first { 1 ≤ signal }
-    requires last { signal ≤ count artery.now }
+    requires shape { IsFor artery.now (base timing.now) }
+    requires signal { HasSignal artery.now signal }
     ensures value { result ≡ first_ticks artery.now timing.now reference dir signal }
     ensures small { result < 2 ^ 92 }
 {
@@ -108,9 +104,8 @@ pub fn first_ticks(
 
 /// The tick at which the last line of a direction's band crosses a signal.
 fn last_line(artery: &Artery, timing: &Timing, dir: Dir, signal: u32) -> i128
-    requires shape { length timing.now.patterns ≡ count artery.now }
-    requires first { 1 ≤ signal }
-    requires last { signal ≤ count artery.now }
+    requires shape { IsFor artery.now (base timing.now) }
+    requires signal { HasSignal artery.now signal }
     ensures value { result ≡ (line_at artery.now timing.now dir signal +ℤ pos (band timing.now dir)) }
     ensures near { unsigned_abs result < 2 ^ 99 }
 {
@@ -125,9 +120,8 @@ pub fn last_ticks(
     dir: Dir,
     signal: u32,
 ) -> u128
-    requires shape { length timing.now.patterns ≡ count artery.now }
-    requires first { 1 ≤ signal }
-    requires last { signal ≤ count artery.now }
+    requires shape { IsFor artery.now (base timing.now) }
+    requires signal { HasSignal artery.now signal }
     ensures value { result ≡ last_ticks artery.now timing.now reference dir signal }
     ensures small { result < 2 ^ 92 }
 {

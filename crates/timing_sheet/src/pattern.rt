@@ -1,8 +1,10 @@
 //! Left turn patterns in words.
 
-ghost use Rattle.std.specs.Prelude.{◌≡◌, ◌≤◌, ◌++◌, OnOk, length};
-ghost use Rattle.progression.specs.Street.{count};
+ghost use Rattle.std.specs.Prelude.{◌≡◌, ◌++◌, OnOk};
+ghost use Rattle.progression.specs.Street.{HasSignal};
 ghost use Rattle.timing_sheet.specs.Records.{pattern_text};
+ghost use Rattle.time_space.specs.Timing.{IsFor};
+ghost use Rattle.progression.specs.TimingRecord.{base};
 
 use artery_model::Artery;
 use narrow_fraction::Memory;
@@ -17,9 +19,8 @@ pub fn push_pattern(
     timing: &Timing,
     signal: u32,
 ) -> Result<(), Memory>
-    requires shape { length timing.now.patterns ≡ count artery.now }
-    requires first { 1 ≤ signal }
-    requires last { signal ≤ count artery.now }
+    requires shape { IsFor artery.now (base timing.now) }
+    requires signal { HasSignal artery.now signal }
     ensures { OnOk result (out.new.items ≡ out.old.items ++ pattern_text artery.now timing.now signal) }
 {
     push_pattern_words(out, artery, signal, timing.pattern(signal))

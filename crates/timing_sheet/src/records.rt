@@ -1,9 +1,11 @@
 //! The record of a signal.
 
-ghost use Rattle.std.specs.Prelude.{◌≡◌, ◌<◌, ◌≤◌, ◌++◌, IfOk, OnOk, length};
-ghost use Rattle.progression.specs.Street.{count};
+ghost use Rattle.std.specs.Prelude.{◌≡◌, ◌<◌, ◌++◌, IfOk, OnOk};
+ghost use Rattle.progression.specs.Street.{count, HasLink, HasSignal};
 ghost use Rattle.timing_sheet.specs.Records.{name_fields, time_fields, turn_fields, green_fields, window_fields, way_fields, no_way_fields, link_fields};
 ghost use Rattle.timing_sheet.specs.Records.{signal_fields, band_fields, record_of};
+ghost use Rattle.time_space.specs.Timing.{IsFor};
+ghost use Rattle.progression.specs.TimingRecord.{base};
 
 use crate::cells::{
     push_empty, push_green, push_moment_cell, push_parts, push_pattern_cell, push_speed,
@@ -28,9 +30,8 @@ fn push_names(
     timing: &Timing,
     signal: u32,
 ) -> Result<(), Memory>
-    requires shape { length timing.now.patterns ≡ count artery.now }
-    requires first { 1 ≤ signal }
-    requires last { signal ≤ count artery.now }
+    requires shape { IsFor artery.now (base timing.now) }
+    requires signal { HasSignal artery.now signal }
     ensures { OnOk result (record.new ≡ record.old ++ name_fields artery.now timing.now signal) }
 {
     push_whole(alloc, record, signal)?;
@@ -48,9 +49,8 @@ fn push_times(
     reference: Reference,
     signal: u32,
 ) -> Result<(), Memory>
-    requires shape { length timing.now.patterns ≡ count artery.now }
-    requires first { 1 ≤ signal }
-    requires last { signal ≤ count artery.now }
+    requires shape { IsFor artery.now (base timing.now) }
+    requires signal { HasSignal artery.now signal }
     ensures { OnOk result (record.new ≡ record.old ++ time_fields artery.now timing.now reference signal) }
 {
     let offset = offset_ticks(artery, timing, reference, signal);
@@ -67,8 +67,7 @@ fn push_turns(
     timing: &Timing,
     signal: u32,
 ) -> Result<(), Memory>
-    requires first { 1 ≤ signal }
-    requires last { signal ≤ count artery.now }
+    requires signal { HasSignal artery.now signal }
     ensures { OnOk result (record.new ≡ record.old ++ turn_fields artery.now timing.now signal) }
 {
     let outbound = artery.left_against(Dir::Inbound, signal);
@@ -86,8 +85,7 @@ fn push_greens(
     timing: &Timing,
     signal: u32,
 ) -> Result<(), Memory>
-    requires first { 1 ≤ signal }
-    requires last { signal ≤ count artery.now }
+    requires signal { HasSignal artery.now signal }
     ensures { OnOk result (record.new ≡ record.old ++ green_fields artery.now timing.now signal) }
 {
     push_green(alloc, record, artery, timing, Dir::Outbound, signal)?;
@@ -104,9 +102,8 @@ fn push_signal(
     reference: Reference,
     signal: u32,
 ) -> Result<(), Memory>
-    requires shape { length timing.now.patterns ≡ count artery.now }
-    requires first { 1 ≤ signal }
-    requires last { signal ≤ count artery.now }
+    requires shape { IsFor artery.now (base timing.now) }
+    requires signal { HasSignal artery.now signal }
     ensures { OnOk result (record.new ≡ record.old ++ signal_fields artery.now timing.now reference signal) }
 {
     push_names(alloc, record, artery, timing, signal)?;
@@ -126,9 +123,8 @@ fn push_window(
     dir: Dir,
     signal: u32,
 ) -> Result<(), Memory>
-    requires shape { length timing.now.patterns ≡ count artery.now }
-    requires first { 1 ≤ signal }
-    requires last { signal ≤ count artery.now }
+    requires shape { IsFor artery.now (base timing.now) }
+    requires signal { HasSignal artery.now signal }
     ensures { OnOk result (record.new ≡ record.old ++ window_fields artery.now timing.now reference dir signal) }
 {
     if !has_band(artery, timing, dir) {
@@ -151,9 +147,8 @@ fn push_windows(
     reference: Reference,
     signal: u32,
 ) -> Result<(), Memory>
-    requires shape { length timing.now.patterns ≡ count artery.now }
-    requires first { 1 ≤ signal }
-    requires last { signal ≤ count artery.now }
+    requires shape { IsFor artery.now (base timing.now) }
+    requires signal { HasSignal artery.now signal }
     ensures { OnOk result (record.new ≡ record.old ++ band_fields artery.now timing.now reference signal) }
 {
     push_window(
@@ -186,9 +181,8 @@ fn push_way(
     dir: Dir,
     link: u32,
 ) -> Result<(), Memory>
-    requires shape { length timing.now.patterns ≡ count artery.now }
-    requires first { 1 ≤ link }
-    requires last { link < count artery.now }
+    requires shape { IsFor artery.now (base timing.now) }
+    requires link { HasLink artery.now link }
     ensures { OnOk result (record.new ≡ record.old ++ way_fields artery.now timing.now dir link) }
 {
     push_whole(alloc, record, artery.distance(dir, link))?;
@@ -222,9 +216,8 @@ fn push_link(
     timing: &Timing,
     signal: u32,
 ) -> Result<(), Memory>
-    requires shape { length timing.now.patterns ≡ count artery.now }
-    requires first { 1 ≤ signal }
-    requires last { signal ≤ count artery.now }
+    requires shape { IsFor artery.now (base timing.now) }
+    requires signal { HasSignal artery.now signal }
     ensures { OnOk result (record.new ≡ record.old ++ link_fields artery.now timing.now signal) }
 {
     if signal < artery.count() {
@@ -244,9 +237,8 @@ pub fn record_of(
     reference: Reference,
     signal: u32,
 ) -> Result<Record, Memory>
-    requires shape { length timing.now.patterns ≡ count artery.now }
-    requires first { 1 ≤ signal }
-    requires last { signal ≤ count artery.now }
+    requires shape { IsFor artery.now (base timing.now) }
+    requires signal { HasSignal artery.now signal }
     ensures { IfOk result (λ made. made ≡ record_of artery.now timing.now reference signal) }
 {
     let mut record = Record::new(alloc);

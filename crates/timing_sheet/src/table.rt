@@ -1,8 +1,10 @@
 //! The table.
 
-ghost use Rattle.std.specs.{Prelude.{◌≡◌, ◌≤◌, ◌++◌, IfOk, OnOk, length}, List.{flat_map, range_with_len}};
-ghost use Rattle.progression.specs.Street.{count};
+ghost use Rattle.std.specs.{Prelude.{◌≡◌, ◌++◌, IfOk, OnOk}, List.{flat_map, range_with_len}};
+ghost use Rattle.progression.specs.Street.{count, HasSignal};
 ghost use Rattle.timing_sheet.specs.Records.{signal_heads, link_heads, head_text, record_text, sheet_text};
+ghost use Rattle.time_space.specs.Timing.{IsFor};
+ghost use Rattle.progression.specs.TimingRecord.{base};
 
 use crate::records::record_of;
 use artery_model::{Artery, Units};
@@ -53,9 +55,8 @@ fn push_signal_record(
     reference: Reference,
     signal: u32,
 ) -> Result<(), Memory>
-    requires shape { length timing.now.patterns ≡ count artery.now }
-    requires first { 1 ≤ signal }
-    requires last { signal ≤ count artery.now }
+    requires shape { IsFor artery.now (base timing.now) }
+    requires signal { HasSignal artery.now signal }
     ensures { OnOk result (out.new.items ≡ out.old.items ++ record_text artery.now timing.now reference signal) }
 {
     let record = record_of(alloc, artery, timing, reference, signal)?;
@@ -70,7 +71,7 @@ fn push_records(
     timing: &Timing,
     reference: Reference,
 ) -> Result<(), Memory>
-    requires { length timing.now.patterns ≡ count artery.now }
+    requires { IsFor artery.now (base timing.now) }
     ensures { OnOk result (out.new.items ≡ out.old.items ++ flat_map (record_text artery.now timing.now reference) (range_with_len 1 (count artery.now))) }
 {
     for signal in 1..artery.count() + 1 {
@@ -92,7 +93,7 @@ pub fn sheet(
     timing: &Timing,
     reference: Reference,
 ) -> Result<Vec<u8>, Memory>
-    requires { length timing.now.patterns ≡ count artery.now }
+    requires { IsFor artery.now (base timing.now) }
     ensures { IfOk result (λ table. table.items ≡ sheet_text artery.now timing.now reference) }
 {
     let mut table = Vec::new(alloc);

@@ -3,7 +3,8 @@ use Rattle.std.specs.Prelude.{ℕ, ◌*◌, ◌/◌, ◌%◌, ◌==◌, if◌the
 use Rattle.std.specs.Fmt.{decimal}
 use Rattle.rational_theory.specs.Rational.{ℚ, over}
 use Rattle.progression.specs.Street.{Street}
-use Rattle.progression.specs.TimingRecord.{TimingRecord, cycle, band}
+use Rattle.progression.specs.TimingRecord.{TimingRecord, base, band}
+use Rattle.progression.specs.BaseRecord.{cycle}
 use Rattle.progression.specs.declared.parts.Dir.{Dir}
 use Rattle.timing_measures.specs.Measures.{seconds, cycle_seconds}
 use Rattle.timing_measures.specs.Rounding.{nearest}
@@ -21,7 +22,7 @@ seconds_text t ticks = tenths (seconds t ticks)
 
 -- a direction's band in hundredths of the cycle
 abbrev pub percent_text : Street → TimingRecord → Dir → List ℕ
-percent_text a t d = tenths (over (pos (100 * band t d)) (cycle a t))
+percent_text a t d = tenths (over (pos (100 * band t d)) (cycle a (base t)))
 
 -- the tenths of a second of a moment within the cycle: one that is rounded to the cycle is 0
 abbrev pub moment_tenths : Street → TimingRecord → ℚ → ℕ

@@ -2,7 +2,8 @@
 use Rattle.std.specs.Prelude.{ℕ, ◌+◌, Bool, IsTrue, ◌↔◌, pos, ◌+ℤ◌, List, codes}
 use Rattle.std.specs.List.{list_all, range_with_len}
 use Rattle.progression.specs.Street.{Street, count}
-use Rattle.progression.specs.TimingRecord.{TimingRecord, cycle, band}
+use Rattle.progression.specs.TimingRecord.{TimingRecord, base, band}
+use Rattle.progression.specs.BaseRecord.{cycle}
 use Rattle.progression.specs.Green.{is_green, red_start, red_ticks}
 use Rattle.progression.specs.Lines.{stop, crossing, IsGreenWay}
 use Rattle.progression.specs.declared.parts.Dir.{Dir}
@@ -15,7 +16,7 @@ dir_word Inbound = codes "inbound"
 -- at the j-th signal in travel order
 abbrev pub is_green_stop : Street → TimingRecord → Dir → ℕ → Bool
 is_green_stop a t d j = let i = stop d (count a) j in
-    list_all (λ k. is_green (cycle a t) (red_start a t d i) (red_ticks a t d i) (crossing a t d j +ℤ pos k)) (range_with_len 0 (band t d + 1))
+    list_all (λ k. is_green (cycle a (base t)) (red_start a (base t) d i) (red_ticks a (base t) d i) (crossing a t d j +ℤ pos k)) (range_with_len 0 (band t d + 1))
 
 unfoldable pub has_band : Street → TimingRecord → Dir → Bool
 has_band a t d = list_all (is_green_stop a t d) (range_with_len 0 (count a))

@@ -3,10 +3,10 @@ use Rattle.run_inputs.specs.Timed.{is_timing}
 use Rattle.run_inputs.proofs.Timing.{timing_refused, certificate_refused}
 use Rattle.run_inputs.proofs.readable.TimedReadable.read.Goals as goal
 
-pub returns-in_err-plan-clause-refused : goal.returns-in_err-plan-clause-refused
-returns-in_err-plan-clause-refused c =
+pub returns-in_err-timing-clause-refused : goal.returns-in_err-timing-clause-refused
+returns-in_err-timing-clause-refused c =
     let first : is_timing c.args.bytes.items ≡ true = search rules in
-    let told = timing_refused c.args.bytes.items c.in_err-plan.field-0.0 first c.in_err-plan.ensures.refused in search (rules, told)
+    let told = timing_refused c.args.bytes.items c.in_err-timing.field-0.0 first c.in_err-timing.ensures.refused in search (rules, told)
 
 pub returns-in_err-warrant-clause-refused : goal.returns-in_err-warrant-clause-refused
 returns-in_err-warrant-clause-refused c =
