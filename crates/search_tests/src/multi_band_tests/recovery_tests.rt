@@ -55,15 +55,15 @@ fn outcome_late(alloc: Global) -> Result<Result<RecoveredLinks, RecoverFault>, F
 
 /// Two ticks a second and a part, the second signal half a cycle after the first, and each band as wide as the greens.
 fn is_amid(timing: &LinkTiming) -> bool {
-    let lines = timing.lines();
-    lines.grid() == 2
-        && lines.unit() == 2
-        && lines.patterns() == [1, 1].as_slice()
-        && lines.reds() == [0, 100].as_slice()
-        && lines.run_out() == [100].as_slice()
-        && lines.run_in() == [100].as_slice()
-        && lines.first(Dir::Outbound) == 150
-        && lines.first(Dir::Inbound) == 50
+    let base = timing.base();
+    base.grid() == 2
+        && base.unit() == 2
+        && base.patterns() == [1, 1].as_slice()
+        && base.reds() == [0, 100].as_slice()
+        && base.run_out() == [100].as_slice()
+        && base.run_in() == [100].as_slice()
+        && timing.first(Dir::Outbound) == 150
+        && timing.first(Dir::Inbound) == 50
         && timing.half_out() == [50].as_slice()
         && timing.half_in() == [50].as_slice()
 }

@@ -11,7 +11,7 @@ use test_bed::{
     Reader, Record, SampleHead, SampleLink, all_told, plain_head, plain_link, plain_signal, range,
     with_changes,
 };
-use time_space::{Timing, holds};
+use time_space::{Base, check_base};
 use whole_offsets::{OffsetPlan, is_better, steady};
 
 /// A street with red at both signals for so many parts, so far apart, whose speeds stand in tenths of a kilometre an hour and its least
@@ -84,21 +84,21 @@ fn planned(answer: Result<OffsetPlan, PlanFault>) -> Result<OffsetPlan, Fail> {
     }
 }
 
-/// The plan in 100 seconds, begun from a timing that is good.
+/// The plan in 100 seconds, begun from a base that keeps the rules.
 #[tactic(auto, using(rational_theory::proofs::Compare::le_true))]
-fn plan_of(alloc: Global, artery: &Artery, timing: &Timing) -> Result<OffsetPlan, Fail> {
+fn plan_of(alloc: Global, artery: &Artery, base: &Base) -> Result<OffsetPlan, Fail> {
     let (limits, seconds) = (artery.cycle(), Frac::whole(100));
-    if limits.least <= seconds && seconds <= limits.most && holds(artery, timing).is_ok() {
-        planned(steady(alloc, artery, timing, 100))
+    if limits.least <= seconds && seconds <= limits.most && check_base(artery, base).is_ok() {
+        planned(steady(alloc, artery, base, 100))
     } else {
-        Err("not good".into())
+        Err("a rule is broken".into())
     }
 }
 
 fn plan(alloc: Global, record: Record<'_>) -> Result<OffsetPlan, Fail> {
     let artery = artery(alloc, record)?;
     let timing = timing(alloc, record)?;
-    plan_of(alloc, &artery, &timing)
+    plan_of(alloc, &artery, timing.base())
 }
 
 fn end_text(alloc: Global, end: Option<PlanEnd>) -> Result<String, AllocError> {

@@ -171,7 +171,7 @@ fn has_halves(timing: &LinkTiming) -> bool {
 
 fn has_numbers(timing: Option<&LinkTiming>) -> bool {
     match timing {
-        Some(timing) => has_halves(timing) && timing.lines().reds() == [0, 50, 0].as_slice(),
+        Some(timing) => has_halves(timing) && timing.base().reds() == [0, 50, 0].as_slice(),
         None => false,
     }
 }

@@ -100,7 +100,7 @@ fn told(alloc: Global, rules: Result<(), Failing>) -> Result<String, AllocError>
     }
 }
 
-/// Judges a street of two signals and its timing, by all rules or by those that speak of no band.
+/// Judges a street of two signals and its timing, by all rules or by those of its base.
 #[derive(Clone, Copy, Drop)]
 struct Rules {
     speak_of_bands: bool,
@@ -170,7 +170,7 @@ fn long_artery(alloc: Global) -> Result<Artery, Fail> {
     )
 }
 
-/// Judges the timing of two signals with each of the cases, by all rules or by those that speak of no band.
+/// Judges the timing of two signals with each of the cases, by all rules or by those of its base.
 fn two_are_judged(
     alloc: Global,
     changes: &str,
@@ -205,6 +205,6 @@ fn the_first_broken_rule_is_named(rt: HostRuntime) -> Result<(), Fail> {
     two_are_judged(alloc, "", true, &TWO_SIGNALS)?;
     long_are_judged(alloc)?;
     two_are_judged(alloc, "version 2|band 100 99", true, &LEAST_AND_EQUAL)?;
-    // Firsts and bands play no part in the rules that speak of no band.
+    // Firsts and bands play no part in the rules of a base.
     two_are_judged(alloc, "first 50 200|band 101 101", false, &NO_BAND)
 }

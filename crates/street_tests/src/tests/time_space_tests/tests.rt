@@ -6,7 +6,7 @@ use progression::Dir;
 use std::alloc::Global;
 use std::test::Fail;
 use test_bed::{Reader, Record, all_told, with_changes};
-use time_space::{Timing, green, in_band, value};
+use time_space::{Base, Timing, green, in_band, value};
 
 /// Tells the numerator and the denominator of the weighted band.
 #[derive(Clone, Copy, Drop)]
@@ -93,36 +93,49 @@ fn what_is_seen_at_a_signal(rt: HostRuntime) -> Result<(), Fail> {
 }
 
 /// The count, the grid and the unit.
-fn measures(timing: &Timing) -> (u32, u128, u128) {
-    (timing.count(), timing.grid(), timing.unit())
+fn measures(base: &Base) -> (u32, u128, u128) {
+    (base.count(), base.grid(), base.unit())
 }
 
 /// The pattern and the common red of signal 2.
-fn at_signal_two(timing: &Timing) -> (u32, i128) {
-    let _ = timing.count();
-    (timing.pattern(2), timing.common_red(2))
+fn at_signal_two(base: &Base) -> (u32, i128) {
+    let _ = base.count();
+    (base.pattern(2), base.common_red(2))
 }
 
-/// A direction's run on link 1, its first line and its band.
-fn one_way(timing: &Timing, dir: Dir) -> (u128, i128, u128) {
-    let _ = timing.count();
-    (timing.run(dir, 1), timing.first(dir), timing.band(dir))
+/// A direction's run on link 1.
+fn first_run(base: &Base, dir: Dir) -> u128 {
+    let _ = base.count();
+    base.run(dir, 1)
 }
 
 /// Whether the lists are these.
-fn has_lists(timing: &Timing, patterns: &[u32], reds: &[u128], runs: [&[u128]; 2]) -> bool {
-    timing.patterns() == patterns
-        && timing.reds() == reds
-        && timing.run_out() == runs[0]
-        && timing.run_in() == runs[1]
+fn has_lists(base: &Base, patterns: &[u32], reds: &[u128], runs: [&[u128]; 2]) -> bool {
+    base.patterns() == patterns
+        && base.reds() == reds
+        && base.run_out() == runs[0]
+        && base.run_in() == runs[1]
+}
+
+/// Whether the numbers are those of the base of a timing whose one band takes a green.
+fn has_base(base: &Base) -> bool {
+    measures(base) == (2, 2, 2)
+        && at_signal_two(base) == (1, 50)
+        && first_run(base, Dir::Outbound) == 50
+        && first_run(base, Dir::Inbound) == 50
+        && has_lists(base, &[1, 1], &[0, 50], [&[50], &[50]])
+}
+
+/// A direction's first line and its band.
+fn pair(timing: &Timing, dir: Dir) -> (i128, u128) {
+    (timing.first(dir), timing.band(dir))
 }
 
 /// Whether the numbers are those of a timing whose one band takes a green.
 fn has_numbers(timing: &Timing) -> bool {
-    measures(timing) == (2, 2, 2)
-        && at_signal_two(timing) == (1, 50)
-        && one_way(timing, Dir::Outbound) == (50, 100, 100)
-        && one_way(timing, Dir::Inbound) == (50, 150, 0)
+    has_base(timing.base())
+        && pair(timing, Dir::Outbound) == (100, 100)
+        && pair(timing, Dir::Inbound) == (150, 0)
 }
 
 /// Whether there is no timing of a text with this change.
@@ -138,7 +151,14 @@ fn are_outside(alloc: Global, base: &str) -> Result<bool, Fail> {
 
 fn is_read_back(alloc: Global, half_band: &str) -> Result<bool, Fail> {
     let read = timing(alloc, Record::new(half_band.as_bytes())?)?;
-    Ok(has_numbers(&read) && has_lists(&read, &[1, 1], &[0, 50], [&[50], &[50]]))
+    Ok(has_numbers(&read))
+}
+
+/// Whether a copy of the base of a timing, banded as the timing is, has its numbers.
+fn is_copied(alloc: Global, half_band: &str) -> Result<bool, Fail> {
+    let read = timing(alloc, Record::new(half_band.as_bytes())?)?;
+    let copy = read.base().copied(alloc)?;
+    Ok(has_numbers(&copy.banded(100, 100, 150, 0)))
 }
 
 #[test]
@@ -146,6 +166,7 @@ fn a_timing_is_read_back(rt: HostRuntime) -> Result<(), Fail> {
     let alloc = rt.alloc();
     let half_band = street_with(alloc, HALF_BAND)?;
     assert!(rt; is_read_back(alloc, half_band.as_str())?);
+    assert!(rt; is_copied(alloc, half_band.as_str())?);
     assert!(rt; are_outside(alloc, half_band.as_str())?);
     Ok(())
 }

@@ -1,7 +1,7 @@
 //! Arteries that are printed, read again and printed again.
 
 ghost use Rattle.std.specs.Prelude.{◌≤◌};
-ghost use Rattle.progression.specs.Street.{count};
+ghost use Rattle.progression.specs.Street.{count, HasSignal};
 
 use super::reading_tests::{
     change_at, lengths_at, patterns_at, reds_by_direction, runs_at, turns_at,
@@ -82,8 +82,7 @@ fn same_limits(a: Option<Pair>, b: Option<Pair>) -> bool {
 }
 
 fn same_signal(a: &Artery, b: &Artery, signal: u32) -> bool
-    requires first { 1 ≤ signal }
-    requires last { signal ≤ count a.now }
+    requires signal { HasSignal a.now signal }
     requires other { signal ≤ count b.now }
 {
     patterns_at(a, signal) == patterns_at(b, signal)

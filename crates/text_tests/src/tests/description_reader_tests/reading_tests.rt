@@ -1,7 +1,6 @@
 //! Descriptions that are read: each key comes back, and the same street in other spellings.
 
-ghost use Rattle.std.specs.Prelude.{◌≤◌};
-ghost use Rattle.progression.specs.Street.{count};
+ghost use Rattle.progression.specs.Street.{count, HasSignal};
 
 use super::samples::{EVERY_KEY, read, read_changed};
 use artery_model::{Artery, Dir, Link, Pair, Units};
@@ -44,31 +43,27 @@ static SIGNALS: [AtSignal; 3] = [
 ];
 
 fn red_out_at(artery: &Artery, signal: u32) -> u32
-    requires first { 1 ≤ signal }
-    requires last { signal ≤ count artery.now }
+    requires signal { HasSignal artery.now signal }
 {
     artery.red_out(signal)
 }
 
 fn red_in_at(artery: &Artery, signal: u32) -> u32
-    requires first { 1 ≤ signal }
-    requires last { signal ≤ count artery.now }
+    requires signal { HasSignal artery.now signal }
 {
     artery.red_in(signal)
 }
 
 /// The outbound and the inbound red of a signal.
 fn reds_at(artery: &Artery, signal: u32) -> [u32; 2]
-    requires first { 1 ≤ signal }
-    requires last { signal ≤ count artery.now }
+    requires signal { HasSignal artery.now signal }
 {
     [red_out_at(artery, signal), red_in_at(artery, signal)]
 }
 
 /// The same, asked by direction.
 pub fn reds_by_direction(artery: &Artery, signal: u32) -> [u32; 2]
-    requires first { 1 ≤ signal }
-    requires last { signal ≤ count artery.now }
+    requires signal { HasSignal artery.now signal }
 {
     [
         artery.red(Dir::Outbound, signal),
@@ -78,8 +73,7 @@ pub fn reds_by_direction(artery: &Artery, signal: u32) -> [u32; 2]
 
 /// The outbound and the inbound left turn of a signal, and the two clearances.
 pub fn turns_at(artery: &Artery, signal: u32) -> [u32; 4]
-    requires first { 1 ≤ signal }
-    requires last { signal ≤ count artery.now }
+    requires signal { HasSignal artery.now signal }
 {
     [
         artery.left_against(Dir::Inbound, signal),
@@ -91,8 +85,7 @@ pub fn turns_at(artery: &Artery, signal: u32) -> [u32; 4]
 
 /// Which of the patterns 1 to 4 a signal allows.
 pub fn patterns_at(artery: &Artery, signal: u32) -> [bool; 4]
-    requires first { 1 ≤ signal }
-    requires last { signal ≤ count artery.now }
+    requires signal { HasSignal artery.now signal }
 {
     [
         artery.allows(signal, 1),
