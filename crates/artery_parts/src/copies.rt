@@ -1,8 +1,8 @@
 //! Copies of an artery's parts.
 
-ghost use Rattle.std.specs.Prelude.{◌≡◌, ◌++◌, [], ◌∷◌, IfOk, OnOk};
+ghost use Rattle.std.specs.Prelude.{◌≡◌, IfOk};
 
-use narrow_fraction::Memory;
+use narrow_fraction::{Memory, push};
 use progression::{Head, Link, Signal, Text};
 use std::alloc::Global;
 
@@ -60,14 +60,6 @@ pub fn copied_link(link: &Link) -> Link
         change_out: link.change_out,
         change_in: link.change_in,
     }
-}
-
-/// Puts an item behind the others.
-pub fn push<T: Drop>(items: &mut Vec<T>, item: T) -> Result<(), Memory>
-    ensures { OnOk result (items.new.items ≡ items.old.items ++ item ∷ []) }
-{
-    items.push(item)?;
-    Ok(())
 }
 
 /// The same signals.

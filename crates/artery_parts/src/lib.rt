@@ -8,6 +8,6 @@ mod copies;
 mod whole;
 
 pub use copies::{
-    copied_head, copied_link, copied_links, copied_name, copied_signal, copied_signals, push,
+    copied_head, copied_link, copied_links, copied_name, copied_signal, copied_signals,
 };
 pub use whole::artery_of;

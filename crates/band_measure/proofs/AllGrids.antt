@@ -107,7 +107,7 @@ module _ (a : Street) (t : BaseRecord) (h : IsValid a) (u : 2 ≤ t.unit) (d : D
       let red = long_least a t h u d 0 some in
       let gap = gaps_of a t h u d x b g 0 some in
       let free = gap.free in
-      let room = gap.room in
+      let within = gap.within in
       omega arith
 
   -- a pair runs on the grid that is once as fine

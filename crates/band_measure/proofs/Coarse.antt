@@ -40,7 +40,7 @@ whole_part (negsuc a) m v q e = let p : 0 < suc a * m = mul-pos (omega arith) q 
 
 -- a gap on the finer grid, at a line that is m times one of this grid, some cycles away
 module _ (c red m b : ℕ) (s e turns : ℤ) (q : 0 < m) where
-  pub record Room : Type 0 where
+  pub record CoarseGap : Type 0 where
     pub width : ℕ
     pub enough : b ≤ width * m
     pub gap : Gap c s red e width
@@ -56,8 +56,8 @@ module _ (c red m b : ℕ) (s e turns : ℤ) (q : 0 < m) where
       let four = minus_scale turns own (c * m) in
       omega (arith, ints, f, g, one, two, three, four)
 
-  room_from : (own : ℤ) (after : ℕ) (w : Whole (parted own) m after) → red * m ≤ after → after + b ≤ c * m → Room
-  room_from own after w f r =
+  coarse_from : (own : ℤ) (after : ℕ) (w : Whole (parted own) m after) → red * m ≤ after → after + b ≤ c * m → CoarseGap
+  coarse_from own after w f r =
       let a = w.part in
       let t = w.times in
       let i = w.is in
@@ -74,12 +74,12 @@ module _ (c red m b : ℕ) (s e turns : ℤ) (q : 0 < m) where
           after = a;
           place = omega (arith, ints, i, back, forth);
           free = let y : red * m ≤ a * m = omega (arith, t, f) in le_of_mul-le-mul_right y q;
-          room = omega arith;
+          within = omega arith;
         };
       }
 
-  pub room : (x : ℤ) → x ≡ e *ℤ pos m +ℤ turns *ℤ pos (c * m) → Gap (c * m) (s *ℤ pos m) (red * m) x b → Room
-  room x f g = room_from g.turns g.after (whole_part (parted g.turns) m g.after q (parted_times g.turns x g.after f g.place)) g.free g.room
+  pub coarse_gap : (x : ℤ) → x ≡ e *ℤ pos m +ℤ turns *ℤ pos (c * m) → Gap (c * m) (s *ℤ pos m) (red * m) x b → CoarseGap
+  coarse_gap x f g = coarse_from g.turns g.after (whole_part (parted g.turns) m g.after q (parted_times g.turns x g.after f g.place)) g.free g.within
 
 cancel : (b w m : ℕ) → 0 < m → b * m ≤ w * m → b ≤ w
 cancel b w m q h = le_of_mul-le-mul_right h q
@@ -96,12 +96,12 @@ gap_times c red m b s x g =
       after = g.after * m;
       place = omega (arith, ints, p, one, two, three);
       free = mul-le-mul_right m g.free;
-      room = let e = mul-le-mul_right m g.room in omega (arith, e);
+      within = let e = mul-le-mul_right m g.within in omega (arith, e);
     }
 
 pub gap_untimed : (c red m b : ℕ) (s x : ℤ) → 0 < m → Gap (c * m) (s *ℤ pos m) (red * m) (x *ℤ pos m) (b * m) → Gap c s red x b
 gap_untimed c red m b s x q g =
-    let r = room c red m (b * m) s x (pos 0) q (x *ℤ pos m) (omega (arith, ints)) g in
+    let r = coarse_gap c red m (b * m) s x (pos 0) q (x *ℤ pos m) (omega (arith, ints)) g in
     gap_narrow c red s x r.width r.gap b (cancel b r.width m q r.enough)
 
 -- ---- all gaps
@@ -124,7 +124,7 @@ module _ (c m : ℕ) (s : ℕ → ℤ) (red : ℕ → ℕ) (x : ℤ) (b : ℕ) w
         width = least.width;
         wide = least.enough;
         gaps = λ k h.
-            let r = room c (red k) m (b + t.back) (s k) (s t.at +ℤ pos (red t.at)) t.turns q (x -ℤ pos t.back) (omega (arith, ints, p, i)) (t.gaps k h) in
+            let r = coarse_gap c (red k) m (b + t.back) (s k) (s t.at +ℤ pos (red t.at)) t.turns q (x -ℤ pos t.back) (omega (arith, ints, p, i)) (t.gaps k h) in
             gap_narrow c (red k) (s k) (s t.at +ℤ pos (red t.at)) r.width r.gap least.width (least.least r.width r.enough);
       }
 

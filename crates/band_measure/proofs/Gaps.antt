@@ -20,7 +20,7 @@ pub record Gap (c : ℕ) (s : ℤ) (red : ℕ) (x : ℤ) (b : ℕ) : Type 0 wher
   pub after : ℕ
   pub place : x ≡ s +ℤ turns *ℤ pos c +ℤ pos after
   pub free : red ≤ after
-  pub room : after + b ≤ c
+  pub within : after + b ≤ c
 
 module _ (c red : ℕ) (s x : ℤ) (b : ℕ) (h : 2 ≤ red) (k : red < c) where
   pub gap_from_green : BandIsGreen c s red x b → Gap c s red x b
@@ -28,32 +28,32 @@ module _ (c red : ℕ) (s x : ℤ) (b : ℕ) (h : 2 ≤ red) (k : red < c) where
       let f = fits_from_band c red s x b h k g in
       let e = split_ℤ (x -ℤ s) c (omega arith) in
       let one = minus_scale (quot_ℤ (x -ℤ s) c) (pos 1) c in
-      let room = f.room in
+      let within = f.room in
       elim f.free [
         | inl z ↦ let y = z.0 in let w = z.1 in record {
           turns = quot_ℤ (x -ℤ s) c -ℤ pos 1;
           after = c;
           place = omega (arith, ints, e, one, y);
           free = omega arith;
-          room = omega (arith, w);
+          within = omega (arith, w);
         }
         | inr w ↦ record {
           turns = quot_ℤ (x -ℤ s) c;
           after = since c s x;
           place = omega (arith, ints, e);
           free = w;
-          room = f.room;
+          within = f.room;
         }
       ]
 
   pub green_from_gap : Gap c s red x b → BandIsGreen c s red x b
   green_from_gap g =
       let p = g.place in
-      let room = g.room in
+      let within = g.within in
       let free = g.free in
       elim (cases_lt g.after c) [
         | inl l ↦ let e : since c s x ≡ g.after = mod_unique (x -ℤ s) g.turns c g.after (omega (arith, ints, p)) l in
-            band_from_fits c red s x b h k (subst (λ r. Fits c red r b) (sym e) (record { free = inr free; room = room }))
+            band_from_fits c red s x b h k (subst (λ r. Fits c red r b) (sym e) (record { free = inr free; room = within }))
         | inr l ↦ let one = plus_scale g.turns (pos 1) c in
             let n : g.after ≡ c = omega arith in
             let e : since c s x ≡ 0 = mod_unique (x -ℤ s) (g.turns +ℤ pos 1) c 0 (omega (arith, ints, p, one, n)) (omega arith) in
@@ -63,16 +63,16 @@ module _ (c red : ℕ) (s x : ℤ) (b : ℕ) (h : 2 ≤ red) (k : red < c) where
 module _ (c red : ℕ) (s x : ℤ) (b : ℕ) (g : Gap c s red x b) where
   -- wider to the left, as far as the end of the red
   pub gap_back : (back : ℕ) → red + back ≤ g.after → Gap c s red (x -ℤ pos back) (b + back)
-  gap_back back h = let p = g.place in let r = g.room in record {
+  gap_back back h = let p = g.place in let r = g.within in record {
     turns = g.turns;
     after = g.after - back;
     place = omega (arith, ints, p, h);
     free = omega (arith, h);
-    room = omega (arith, r, h);
+    within = omega (arith, r, h);
   }
 
   pub gap_narrow : (w : ℕ) → w ≤ b → Gap c s red x w
-  gap_narrow w h = let r = g.room in record { turns = g.turns; after = g.after; place = g.place; free = g.free; room = omega arith }
+  gap_narrow w h = let r = g.within in record { turns = g.turns; after = g.after; place = g.place; free = g.free; within = omega arith }
 
   -- some cycles away
   pub gap_turn : (y k : ℤ) → y ≡ x +ℤ k *ℤ pos c → Gap c s red y b
@@ -81,21 +81,21 @@ module _ (c red : ℕ) (s x : ℤ) (b : ℕ) (g : Gap c s red x b) where
     after = g.after;
     place = omega (arith, ints, e, p, q);
     free = g.free;
-    room = g.room;
+    within = g.within;
   }
 
   -- the red and the line as much later
   pub gap_later : (r y w : ℤ) → r ≡ s +ℤ w → y ≡ x +ℤ w → Gap c r red y b
-  gap_later r y w e f = let p = g.place in record { turns = g.turns; after = g.after; place = omega (arith, ints, p, e, f); free = g.free; room = g.room }
+  gap_later r y w e f = let p = g.place in record { turns = g.turns; after = g.after; place = omega (arith, ints, p, e, f); free = g.free; within = g.within }
 
 -- less wide to the left
 pub gap_forth : (c red : ℕ) (s x : ℤ) (b more less : ℕ) → less ≤ more → Gap c s red (x -ℤ pos more) (b + more) → Gap c s red (x -ℤ pos less) (b + less)
-gap_forth c red s x b more less h g = let p = g.place in let f = g.free in let r = g.room in record {
+gap_forth c red s x b more less h g = let p = g.place in let f = g.free in let r = g.within in record {
   turns = g.turns;
   after = g.after + (more - less);
   place = omega (arith, ints, p, h);
   free = omega arith;
-  room = omega (arith, r, h);
+  within = omega (arith, r, h);
 }
 
 -- ---- widened until a red ends

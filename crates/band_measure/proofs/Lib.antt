@@ -2,7 +2,7 @@ pub mod Gaps
 pub mod Coarse
 pub mod Lines
 pub mod AllGrids
-pub mod Rooms
+pub mod WidestGreens
 pub mod Tries
 pub mod Parts
 pub mod Cuts

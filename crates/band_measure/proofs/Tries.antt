@@ -9,7 +9,7 @@ use Rattle.artery_model.specs.Valid.{IsValid}
 use Rattle.progression.specs.Lines.{RunsOn}
 use Rattle.band_measure.specs.Edges.{edge}
 use Rattle.band_measure.specs.Widest.{NoneRuns, IsWidest}
-use Rattle.band_measure.specs.Rooms.{IsWidestFrom}
+use Rattle.band_measure.specs.Widths.{IsWidestFrom}
 use Rattle.band_measure.specs.Tried.{NoneAtEdges, IsWidestOfEdges, FoundOfEdges}
 use Rattle.band_measure.specs.declared.pair.Widest.{Widest}
 use Rattle.band_measure.proofs.AllGrids.{none_runs, widest_is, runs_once, band_below}

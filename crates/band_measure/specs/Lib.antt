@@ -1,6 +1,6 @@
 pub mod Pairs
 pub mod Widest
 pub mod Edges
-pub mod Rooms
+pub mod Widths
 pub mod Tried
 pub mod Cut

@@ -21,8 +21,8 @@ mod bands;
 mod laws;
 mod measure;
 mod pair;
-mod room;
 mod ways;
+mod widths;
 
 pub use bands::{Bands, cut};
 pub use laws::{law_finer_pairs, law_one_widest};

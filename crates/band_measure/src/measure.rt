@@ -6,8 +6,8 @@ ghost use Rattle.band_measure.specs.{Edges.{way}, Widest.{NoneRuns, IsWidest}, T
 ghost use Rattle.time_space.specs.Timing.{IsFor};
 
 use crate::pair::Widest;
-use crate::room::band_from;
 use crate::ways::{edge, way_beyond};
+use crate::widths::band_from;
 use artery_model::Artery;
 use progression::Dir;
 use time_space::{Base, Timing};

@@ -1,20 +1,12 @@
 //! The nodes as they are answered.
 
-ghost use Rattle.std.specs.Prelude.{◌≡◌, ◌++◌, Some, true, false, [], ◌∷◌, IfOk, OnOk};
+ghost use Rattle.std.specs.Prelude.{◌≡◌, Some, true, false, IfOk};
 ghost use Rattle.branch_and_bound.specs.{Matchings.{Matches}, State.{IsShown}};
 
 use crate::incumbent::{Incumbent, is_reached};
 use crate::node::{Node, TreeNode};
-use narrow_fraction::Memory;
-use std::alloc::{AllocError, Global};
-
-/// One more node.
-fn push(nodes: &mut Vec<TreeNode>, node: TreeNode) -> Result<(), AllocError>
-    ensures { OnOk result (nodes.new.items ≡ nodes.old.items ++ node ∷ []) }
-{
-    nodes.push(node)?;
-    Ok(())
-}
+use narrow_fraction::{Memory, push};
+use std::alloc::Global;
 
 /// Whether this is the node whose split was undone.
 fn is_undone(undone: Option<usize>, index: usize) -> bool

@@ -12,9 +12,9 @@ use Rattle.simplex_theory.specs.RowLists.{StandsForRows}
 use Rattle.simplex_theory.proofs.RowLists.{rows_stand-exchange}
 use Rattle.entry_theory.specs.Directions.{HaveSameForms}
 use Rattle.entry_theory.proofs.Directions.{same_forms-exchange, some_row, no_more_basics, dual_by_forms}
-use Rattle.entry_theory.specs.Entry.{variable_at, IsAmong, NamesBasics, is_zero, can_take, entry_row, entry_turn, entry_after, entry}
+use Rattle.entry_theory.specs.Entry.{variable_at, IsAmong, NamesBasics, is_zero, can_take, entry_row, entry_pivot, entry_after, entry}
 use Rattle.entry_theory.specs.Ready.{IsFresh, IsReady}
-use Rattle.entry_theory.proofs.Rows.{IsEntryRow, can_take_says, can_take_of, zero_true, true_zero, entry_row_found, turn_column, turn_slack}
+use Rattle.entry_theory.proofs.Rows.{IsEntryRow, can_take_says, can_take_of, zero_true, true_zero, entry_row_found, pivot_column, pivot_slack}
 use Rattle.entry_theory.proofs.Entering.{IsEntering, HasEntered, entering_start, entering_slack, entering_place, entering_column}
 
 column_or_slack : (v w : ℕ) → (v < w) ⊎ (w ≤ v)
@@ -64,31 +64,31 @@ module _ (vs : List ℕ) (u : Tableau) (d : IsDual u) (names : NamesBasics vs u)
           absurd (some_row t u (variable_at vs n) e.shaped e.placed d.shaped d.placed f (rw e.columns c)
           (subst (IsBasic u) (sym at_place) ((names.basics (variable_at vs n)).0 (record { at = n; within = l; holds = refl }))) (none o))
 
-  -- ---- along the turns
+  -- ---- along the list
   pub record IsUnderWay (m w n : ℕ) (t : Tableau) : Type 0 where
     pub entering : IsEntering vs m w n t
     pub forms : HaveSameForms t u
 
-  pub next_turn : (m w n : ℕ) (t : Tableau) → IsUnderWay m w n t → n < length vs → IsUnderWay m w (suc n) (entry_turn vs t (variable_at vs n))
-  next_turn m w n t a l = pick (column_or_slack (variable_at vs n) w)
+  pub next_pivot : (m w n : ℕ) (t : Tableau) → IsUnderWay m w n t → n < length vs → IsUnderWay m w (suc n) (entry_pivot vs t (variable_at vs n))
+  next_pivot m w n t a l = pick (column_or_slack (variable_at vs n) w)
     where
-      pick : (variable_at vs n < w) ⊎ (w ≤ variable_at vs n) → IsUnderWay m w (suc n) (entry_turn vs t (variable_at vs n))
+      pick : (variable_at vs n < w) ⊎ (w ≤ variable_at vs n) → IsUnderWay m w (suc n) (entry_pivot vs t (variable_at vs n))
       pick (inl h) =
           let q = finds_row m w n t a.entering a.forms l h in
-          subst (IsUnderWay m w (suc n)) (sym (turn_column vs t (variable_at vs n) (rw a.entering.columns h)))
+          subst (IsUnderWay m w (suc n)) (sym (pivot_column vs t (variable_at vs n) (rw a.entering.columns h)))
           (record {
             entering = entering_column vs m w n t (entry_row vs t (variable_at vs n)) a.entering h (λ k b. apart k n b l) q.enters;
             forms = same_forms-exchange (entry_row vs t (variable_at vs n)) (variable_at vs n) t u a.entering.shaped
                 (entering_place vs m w n t (entry_row vs t (variable_at vs n)) a.entering h (λ k b. apart k n b l) q.enters) a.forms;
           })
       pick (inr h) =
-          subst (IsUnderWay m w (suc n)) (sym (turn_slack vs t (variable_at vs n) (rw a.entering.columns h)))
+          subst (IsUnderWay m w (suc n)) (sym (pivot_slack vs t (variable_at vs n) (rw a.entering.columns h)))
           (record { entering = entering_slack vs m w n t a.entering h; forms = a.forms })
 
   pub under_way : (t : Tableau) → IsFresh t → HaveSameForms t u → (k : ℕ) → k ≤ length vs → IsUnderWay (height t) (width t) k (entry_after vs t k)
   unfolding entry_after
   under_way t f s zero h = record { entering = entering_start vs t f; forms = s }
-  under_way t f s (suc k) h = next_turn (height t) (width t) k (entry_after vs t k) (under_way t f s k (omega arith)) (omega arith)
+  under_way t f s (suc k) h = next_pivot (height t) (width t) k (entry_after vs t k) (under_way t f s k (omega arith)) (omega arith)
 
   -- ---- the end
   module _ (t : Tableau) (f : IsFresh t) (s : HaveSameForms t u) where
@@ -138,21 +138,21 @@ module _ (vs : List ℕ) (u : Tableau) (d : IsDual u) (names : NamesBasics vs u)
 
     -- what each exchange keeps, the entry keeps
     module _ (P : Tableau → Type 0) (keeps : (r j : ℕ) (a : Tableau) → IsShaped a → IsPlace a r j → P a → P (exchange r j a)) where
-      turn_keeps : (n : ℕ) (a : Tableau) → IsUnderWay (height t) (width t) n a → n < length vs → P a → P (entry_turn vs a (variable_at vs n))
-      turn_keeps n a e l p = pick (column_or_slack (variable_at vs n) (width t))
+      pivot_keeps : (n : ℕ) (a : Tableau) → IsUnderWay (height t) (width t) n a → n < length vs → P a → P (entry_pivot vs a (variable_at vs n))
+      pivot_keeps n a e l p = pick (column_or_slack (variable_at vs n) (width t))
         where
-          pick : (variable_at vs n < width t) ⊎ (width t ≤ variable_at vs n) → P (entry_turn vs a (variable_at vs n))
+          pick : (variable_at vs n < width t) ⊎ (width t ≤ variable_at vs n) → P (entry_pivot vs a (variable_at vs n))
           pick (inl h) =
               let q = finds_row (height t) (width t) n a e.entering e.forms l h in
-              subst P (sym (turn_column vs a (variable_at vs n) (rw e.entering.columns h)))
+              subst P (sym (pivot_column vs a (variable_at vs n) (rw e.entering.columns h)))
               (keeps (entry_row vs a (variable_at vs n)) (variable_at vs n) a e.entering.shaped
               (entering_place vs (height t) (width t) n a (entry_row vs a (variable_at vs n)) e.entering h (λ k b. apart k n b l) q.enters) p)
-          pick (inr h) = subst P (sym (turn_slack vs a (variable_at vs n) (rw e.entering.columns h))) p
+          pick (inr h) = subst P (sym (pivot_slack vs a (variable_at vs n) (rw e.entering.columns h))) p
 
       keeps_after : P t → (k : ℕ) → k ≤ length vs → P (entry_after vs t k)
       unfolding entry_after
       keeps_after p zero h = p
-      keeps_after p (suc k) h = turn_keeps k (entry_after vs t k) (under_way t f s k (omega arith)) (omega arith) (keeps_after p k (omega arith))
+      keeps_after p (suc k) h = pivot_keeps k (entry_after vs t k) (under_way t f s k (omega arith)) (omega arith) (keeps_after p k (omega arith))
 
       pub entry_keeps : P t → P (entry vs t)
       unfolding entry
@@ -161,7 +161,7 @@ module _ (vs : List ℕ) (u : Tableau) (d : IsDual u) (names : NamesBasics vs u)
     pub entry_stands : (rows : List Row) (goal : List ℚ) → StandsForRows t rows goal → StandsForRows (entry vs t) rows goal
     entry_stands rows goal = entry_keeps (λ a. StandsForRows a rows goal) (λ r j a h p k. rows_stand-exchange r j a rows goal h p k)
 
--- each turn of a column has its place
+-- each pivot of a column has its place
 pub ready_place : (vs : List ℕ) (t : Tableau) → IsReady vs t → (k : ℕ) → k < length vs → variable_at vs k < width (entry_after vs t k)
     → IsPlace (entry_after vs t k) (entry_row vs (entry_after vs t k) (variable_at vs k)) (variable_at vs k)
 ready_place vs t a k h l =
@@ -170,6 +170,6 @@ ready_place vs t a k h l =
     let r = (finds_row vs a.table a.dual a.names (height t) (width t) k (entry_after vs t k) q.entering q.forms h (omega arith)).enters in
     record { row = r.row; place = l; pivot = r.pivot }
 
--- no turn changes the number of rows or of places
+-- no variable changes the number of rows or of places
 pub ready_rows : (vs : List ℕ) (t : Tableau) → IsReady vs t → (k : ℕ) → k ≤ length vs → (height (entry_after vs t k) ≡ height t) × (width (entry_after vs t k) ≡ width t)
 ready_rows vs t a k h = let q = under_way vs a.table a.dual a.names t a.fresh a.forms k h in (q.entering.rows, q.entering.columns)

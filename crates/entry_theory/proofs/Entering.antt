@@ -1,4 +1,4 @@
--- An entry on its way: what its tableau is after each turn, that the next column finds its row, and what the end is.
+-- An entry on its way: what its tableau is after each variable, that the next column finds its row, and what the end is.
 use Rattle.std.proofs.Common.{◌≡◌, ℕ, suc, List, ◌+◌, ◌<◌, ◌≤◌, ◌⊎◌, inl, inr, refl, sym, ◌∙◌, ap, subst, arith}
 use Rattle.simplex_theory.specs.Tableau.{Tableau, height, width, basic_at, standing_at, IsShaped, IsPlace, exchange}
 use Rattle.simplex_theory.proofs.Tableau.{height-exchange, width-exchange, basic_same, basic_other, standing_other, shaped-exchange, same_or_other}
@@ -14,7 +14,7 @@ use Rattle.entry_theory.proofs.Rows.{CanEnter}
 abbrev pub HasEntered : List ℕ → ℕ → ℕ → ℕ → Type 0
 HasEntered vs w n v = Found (λ k. (variable_at vs k < w) × (variable_at vs k ≡ v)) n
 
--- the tableau after n turns, of m rows and w places
+-- the tableau after n variables, of m rows and w places
 pub record IsEntering (vs : List ℕ) (m w n : ℕ) (t : Tableau) : Type 0 where
   pub shaped : IsShaped t
   pub placed : IsPlaced t
@@ -44,7 +44,7 @@ entering_start vs t f = record {
 last_or_before : (k n : ℕ) → k < suc n → (k ≡ n) ⊎ (k < n)
 last_or_before k n h = grind arith
 
--- the turn of a slack
+-- at a slack
 pub entering_slack : (vs : List ℕ) (m w n : ℕ) (t : Tableau) → IsEntering vs m w n t → w ≤ variable_at vs n → IsEntering vs m w (suc n) t
 entering_slack vs m w n t e h = record {
   shaped = e.shaped;
@@ -103,7 +103,7 @@ module _ (vs : List ℕ) (m w n : ℕ) (t : Tableau) (r : ℕ) (e : IsEntering v
             there p.row (λ f. absurd (let g = ap (basic_at t) f in let h = p.is in let o = own in omega arith)) ∙ p.is;
       }
 
-  -- the turn of a column, at a row that it can enter
+  -- the pivot of a column, at a row that it can enter
   pub entering_column : IsEntering vs m w (suc n) (exchange r (variable_at vs n) t)
   entering_column = record {
     shaped = shaped-exchange r (variable_at vs n) t e.shaped c.row;

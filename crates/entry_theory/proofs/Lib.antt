@@ -5,7 +5,7 @@ pub mod Sorted
 pub mod Directions
 pub mod Entering
 pub mod Entered
-pub mod Turns
+pub mod Pivots
 pub mod SameRows
 pub mod SameCells
 pub mod Promises

@@ -12,7 +12,7 @@ use Rattle.entry_theory.proofs.Basics.{names_basics_of, names_only}
 use Rattle.entry_theory.proofs.Entered.{entry_names, entry_dual, entry_stands}
 use Rattle.entry_theory.proofs.SameRows.{same_forms}
 use Rattle.entry_theory.proofs.Sorted.{sorted_is}
-use Rattle.entry_theory.proofs.Turns.{is_entry, only_entry}
+use Rattle.entry_theory.proofs.Pivots.{is_entry, only_entry}
 
 pub basics_are_listed : BasicsAreListed
 basics_are_listed t s p = record {

@@ -8,7 +8,7 @@ use Rattle.rational_theory.specs.Rational.{ℚ, whole}
 use Rattle.rational_theory.proofs.Compare.{eq_says}
 use Rattle.simplex_theory.specs.Tableau.{Tableau, cell, height, width, basic_at, exchange}
 use Rattle.entry_theory.proofs.Least.{IsLeast, least_is, least_found}
-use Rattle.entry_theory.specs.Entry.{IsAmong, is_among, is_zero, can_take, entry_row, entry_turn}
+use Rattle.entry_theory.specs.Entry.{IsAmong, is_among, is_zero, can_take, entry_row, entry_pivot}
 
 -- ---- the tests
 pub among_true : (vs : List ℕ) (v : ℕ) → IsAmong vs v → is_among vs v ≡ true
@@ -83,11 +83,11 @@ entry_row_is vs t j r h =
       before = λ k l. false_from_ne_true _ (λ e. let m = h.least k (can_take_says vs t j k (let b = h.enters.row in omega arith) e) in absurd (omega arith));
     })
 
--- ---- a turn
-pub turn_column : (vs : List ℕ) (t : Tableau) (v : ℕ) → v < width t → entry_turn vs t v ≡ exchange (entry_row vs t v) v t
-unfolding entry_turn
-turn_column vs t v h = cond-true (ltb v (width t)) _ _ (lt-ltb v (width t) h)
+-- ---- one variable more
+pub pivot_column : (vs : List ℕ) (t : Tableau) (v : ℕ) → v < width t → entry_pivot vs t v ≡ exchange (entry_row vs t v) v t
+unfolding entry_pivot
+pivot_column vs t v h = cond-true (ltb v (width t)) _ _ (lt-ltb v (width t) h)
 
-pub turn_slack : (vs : List ℕ) (t : Tableau) (v : ℕ) → width t ≤ v → entry_turn vs t v ≡ t
-unfolding entry_turn
-turn_slack vs t v h = cond-false (ltb v (width t)) _ _ (le-ltb v (width t) h)
+pub pivot_slack : (vs : List ℕ) (t : Tableau) (v : ℕ) → width t ≤ v → entry_pivot vs t v ≡ t
+unfolding entry_pivot
+pivot_slack vs t v h = cond-false (ltb v (width t)) _ _ (le-ltb v (width t) h)

@@ -3,25 +3,25 @@ use Rattle.std.proofs.Common.{◌≡◌, ℕ, zero, suc, pos, Bool, not, cond, e
 use Rattle.std.proofs.Math.ListN.{set}
 use Rattle.std.proofs.lemmas.List.{ext_get_or}
 use Rattle.rational_theory.specs.Rational.{ℚ, whole, neg_ℚ, inverse_ℚ, ◌+ℚ◌, ◌*ℚ◌}
-use Rattle.simplex_theory.specs.Lines.{turned, cleared}
-use Rattle.simplex_theory.proofs.Lines.{turned_at, turned_other, cleared_at, cleared_other}
+use Rattle.simplex_theory.specs.Lines.{divided, cleared}
+use Rattle.simplex_theory.proofs.Lines.{divided_at, divided_other, cleared_at, cleared_other}
 use Rattle.simplex_theory.specs.Tableau.{Tableau, line, cell, goal_cell, height, width, bound, goal_bound, IsShaped, exchange}
 use Rattle.simplex_theory.proofs.Tableau.{height-exchange, width-exchange, line-exchange_same, line-exchange_other, goal-exchange, basic-exchange, standing-exchange, same_or_other}
 use Rattle.entry_theory.specs.Least.{least}
-use Rattle.entry_theory.specs.Entry.{variable_at, is_zero, is_among, can_take, entry_row, entry_turn, entry_after}
+use Rattle.entry_theory.specs.Entry.{variable_at, is_zero, is_among, can_take, entry_row, entry_pivot, entry_after}
 use Rattle.entry_theory.specs.Ready.{IsReady}
 use Rattle.entry_theory.specs.SameCells.{HaveSameCells}
-use Rattle.entry_theory.proofs.Rows.{turn_column, turn_slack}
+use Rattle.entry_theory.proofs.Rows.{pivot_column, pivot_slack}
 use Rattle.entry_theory.proofs.Entered.{under_way, ready_place}
 
--- ---- one row: a turned or cleared one's cell is by the cells at its place and at the pivot's
-pub turned_same : (j k : ℕ) (c d : List ℚ) → j < length c → j < length d → get_or c j (whole (pos 0)) ≡ get_or d j (whole (pos 0)) → get_or c k (whole (pos 0)) ≡ get_or d k (whole (pos 0))
-    → get_or (turned j c) k (whole (pos 0)) ≡ get_or (turned j d) k (whole (pos 0))
-turned_same j k c d h l p q = pick (same_or_other k j)
+-- ---- one row: a divided or cleared one's cell is by the cells at its place and at the pivot's
+pub divided_same : (j k : ℕ) (c d : List ℚ) → j < length c → j < length d → get_or c j (whole (pos 0)) ≡ get_or d j (whole (pos 0)) → get_or c k (whole (pos 0)) ≡ get_or d k (whole (pos 0))
+    → get_or (divided j c) k (whole (pos 0)) ≡ get_or (divided j d) k (whole (pos 0))
+divided_same j k c d h l p q = pick (same_or_other k j)
   where
-    pick : (k ≡ j) ⊎ (k ≡ j → ⊥) → get_or (turned j c) k (whole (pos 0)) ≡ get_or (turned j d) k (whole (pos 0))
-    pick (inl e) = rw e (turned_at j c h ∙ ap inverse_ℚ p ∙ sym (turned_at j d l))
-    pick (inr n) = turned_other j k c n ∙ ap₂ (λ x y. inverse_ℚ x *ℚ y) p q ∙ sym (turned_other j k d n)
+    pick : (k ≡ j) ⊎ (k ≡ j → ⊥) → get_or (divided j c) k (whole (pos 0)) ≡ get_or (divided j d) k (whole (pos 0))
+    pick (inl e) = rw e (divided_at j c h ∙ ap inverse_ℚ p ∙ sym (divided_at j d l))
+    pick (inr n) = divided_other j k c n ∙ ap₂ (λ x y. inverse_ℚ x *ℚ y) p q ∙ sym (divided_other j k d n)
 
 pub cleared_same : (j k : ℕ) (e f c d : List ℚ) → j < length c → j < length d → get_or c j (whole (pos 0)) ≡ get_or d j (whole (pos 0)) → get_or c k (whole (pos 0)) ≡ get_or d k (whole (pos 0))
     → get_or e j (whole (pos 0)) ≡ get_or f j (whole (pos 0)) → get_or e k (whole (pos 0)) ≡ get_or f k (whole (pos 0))
@@ -46,29 +46,29 @@ module _ (r j : ℕ) (t u : Tableau) (s : IsShaped t) (v : IsShaped u) (h : r < 
   other_length : length (line u r) ≡ suc (width u)
   other_length = v.lines r low
 
-  pub same_turned : (k : ℕ) → k < width t → get_or (turned j (line t r)) k (whole (pos 0)) ≡ get_or (turned j (line u r)) k (whole (pos 0))
-  same_turned k n =
-      turned_same j k (line t r) (line u r) (let e = own_length in omega arith) (let e = other_length in let f = columns in omega arith) (a.cells r j h l) (a.cells r k h n)
+  pub same_divided : (k : ℕ) → k < width t → get_or (divided j (line t r)) k (whole (pos 0)) ≡ get_or (divided j (line u r)) k (whole (pos 0))
+  same_divided k n =
+      divided_same j k (line t r) (line u r) (let e = own_length in omega arith) (let e = other_length in let f = columns in omega arith) (a.cells r j h l) (a.cells r k h n)
 
   same_line : (i k : ℕ) → i < height t → k < width t → (i ≡ r) ⊎ (i ≡ r → ⊥) → cell (exchange r j t) i k ≡ cell (exchange r j u) i k
   same_line i k m n (inl e) =
       rw e
-      (ap (λ (c : List ℚ). get_or c k (whole (pos 0))) (line-exchange_same r j t h) ∙ same_turned k n
+      (ap (λ (c : List ℚ). get_or c k (whole (pos 0))) (line-exchange_same r j t h) ∙ same_divided k n
       ∙ sym (ap (λ (c : List ℚ). get_or c k (whole (pos 0))) (line-exchange_same r j u low)))
   same_line i k m n (inr o) =
       let b : i < height u = let e = a.rows in omega arith in
       ap (λ (c : List ℚ). get_or c k (whole (pos 0))) (line-exchange_other r j i t m o)
-      ∙ cleared_same j k (turned j (line t r)) (turned j (line u r)) (line t i) (line u i)
+      ∙ cleared_same j k (divided j (line t r)) (divided j (line u r)) (line t i) (line u i)
       (let e = s.lines i m in omega arith) (let e = v.lines i b in let f = columns in omega arith)
-      (a.cells i j m l) (a.cells i k m n) (same_turned j l) (same_turned k n)
+      (a.cells i j m l) (a.cells i k m n) (same_divided j l) (same_divided k n)
       ∙ sym (ap (λ (c : List ℚ). get_or c k (whole (pos 0))) (line-exchange_other r j i u b o))
 
   same_goal : (k : ℕ) → k < width t → goal_cell (exchange r j t) k ≡ goal_cell (exchange r j u) k
   same_goal k n =
       ap (λ (c : List ℚ). get_or c k (whole (pos 0))) (goal-exchange r j t)
-      ∙ cleared_same j k (turned j (line t r)) (turned j (line u r)) t.goal u.goal
+      ∙ cleared_same j k (divided j (line t r)) (divided j (line u r)) t.goal u.goal
       (let e = s.goals in omega arith) (let e = v.goals in let f = columns in omega arith)
-      (a.goals j l) (a.goals k n) (same_turned j l) (same_turned k n)
+      (a.goals j l) (a.goals k n) (same_divided j l) (same_divided k n)
       ∙ sym (ap (λ (c : List ℚ). get_or c k (whole (pos 0))) (goal-exchange r j u))
 
   pub same-exchange : HaveSameCells (exchange r j t) (exchange r j u)
@@ -93,7 +93,7 @@ pub same_row : (vs : List ℕ) (j : ℕ) (t u : Tableau) → j < width t → Hav
 unfolding entry_row
 same_row vs j t u h a = least_same (can_take vs t j) (can_take vs u j) (height t) (λ i l. same_test vs j i t u l h a) ∙ ap (least (can_take vs u j)) a.rows
 
--- ---- along the turns
+-- ---- along the list
 column_or_slack : (v w : ℕ) → (v < w) ⊎ (w ≤ v)
 column_or_slack v w = grind arith
 
@@ -109,16 +109,16 @@ module _ (vs : List ℕ) (t u : Tableau) (r : IsReady vs t) (v : IsReady vs u) w
       e = ap length a.standing
 
       pick : (variable_at vs k < width (entry_after vs t k)) ⊎ (width (entry_after vs t k) ≤ variable_at vs k)
-          → HaveSameCells (entry_turn vs (entry_after vs t k) (variable_at vs k)) (entry_turn vs (entry_after vs u k) (variable_at vs k))
+          → HaveSameCells (entry_pivot vs (entry_after vs t k) (variable_at vs k)) (entry_pivot vs (entry_after vs u k) (variable_at vs k))
       pick (inl l) =
           let p = ready_place vs t r k h l in
           let q = same-exchange (entry_row vs (entry_after vs t k) (variable_at vs k)) (variable_at vs k) (entry_after vs t k) (entry_after vs u k)
           (ready_shaped vs t r k (omega arith)) (ready_shaped vs u v k (omega arith)) p.row l a in
-          rw (turn_column vs (entry_after vs t k) (variable_at vs k) l, turn_column vs (entry_after vs u k) (variable_at vs k) (subst (λ w. variable_at vs k < w) e l))
+          rw (pivot_column vs (entry_after vs t k) (variable_at vs k) l, pivot_column vs (entry_after vs u k) (variable_at vs k) (subst (λ w. variable_at vs k < w) e l))
           (subst (λ n. HaveSameCells (exchange (entry_row vs (entry_after vs t k) (variable_at vs k)) (variable_at vs k) (entry_after vs t k)) (exchange n (variable_at vs k) (entry_after vs u k)))
           (same_row vs (variable_at vs k) (entry_after vs t k) (entry_after vs u k) l a) q)
       pick (inr l) =
-          rw (turn_slack vs (entry_after vs t k) (variable_at vs k) l, turn_slack vs (entry_after vs u k) (variable_at vs k) (subst (λ w. w ≤ variable_at vs k) e l)) a
+          rw (pivot_slack vs (entry_after vs t k) (variable_at vs k) l, pivot_slack vs (entry_after vs u k) (variable_at vs k) (subst (λ w. w ≤ variable_at vs k) e l)) a
 
   pub same_after : HaveSameCells t u → (k : ℕ) → k ≤ length vs → HaveSameCells (entry_after vs t k) (entry_after vs u k)
   unfolding entry_after

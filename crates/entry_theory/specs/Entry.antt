@@ -23,16 +23,16 @@ pub record NamesBasics (vs : List ℕ) (t : Tableau) : Type 0 where
   pub ascending : (i k : ℕ) → i < k → k < length vs → variable_at vs i < variable_at vs k
   pub basics : (v : ℕ) → IsAmong vs v ↔ IsBasic t v
 
--- ---- the rule as a relation. There is a turn for each variable of the list. p k is the tableau before turn k, and r k the row that
--- a column enters at turn k.
--- row i can take the column j of turn k: its slack is not in the list, no earlier turn took it, and it has a cell at j
+-- ---- the rule as a relation. The list is gone through. p k is the tableau before its variable k, and r k the row that
+-- variable k enters where it is a column.
+-- row i can take the column j that is variable k: its slack is not in the list, no earlier one took it, and it has a cell at j
 pub record CanTake (vs : List ℕ) (p : ℕ → Tableau) (r : ℕ → ℕ) (k i : ℕ) : Type 0 where
   pub row : i < height (p k)
   pub left_out : IsAmong vs (width (p k) + i) → ⊥
   pub unused : (l : ℕ) → l < k → variable_at vs l < width (p k) → r l ≡ i → ⊥
   pub pivot : cell (p k) i (variable_at vs k) ≡ whole (pos 0) → ⊥
 
--- a column enters at the least row that can take it; at the turn of a slack nothing happens
+-- a column enters at the least row that can take it; at a slack nothing happens
 pub record IsEntry (vs : List ℕ) (p : ℕ → Tableau) (r : ℕ → ℕ) : Type 0 where
   pub takes : (k : ℕ) → k < length vs → variable_at vs k < width (p k) → CanTake vs p r k (r k)
   pub least : (k i : ℕ) → k < length vs → variable_at vs k < width (p k) → CanTake vs p r k i → r k ≤ i
@@ -53,15 +53,15 @@ can_take vs t j i = eqb (basic_at t i) (width t + i) && (not (is_zero (cell t i 
 unfoldable pub entry_row : List ℕ → Tableau → ℕ → ℕ
 entry_row vs t j = least (can_take vs t j) (height t)
 
-unfoldable pub entry_turn : List ℕ → Tableau → ℕ → Tableau
-entry_turn vs t v = cond (ltb v (width t)) (exchange (entry_row vs t v) v t) t
+unfoldable pub entry_pivot : List ℕ → Tableau → ℕ → Tableau
+entry_pivot vs t v = cond (ltb v (width t)) (exchange (entry_row vs t v) v t) t
 
--- the tableau after so many turns
+-- the tableau after so many variables
 unfoldable pub entry_after : List ℕ → Tableau → ℕ → Tableau
 entry_after vs t zero = t
-entry_after vs t (suc k) = entry_turn vs (entry_after vs t k) (variable_at vs k)
+entry_after vs t (suc k) = entry_pivot vs (entry_after vs t k) (variable_at vs k)
 
--- the row that is used at each turn of a column
+-- the row that is used at each column
 unfoldable pub entry_rows : List ℕ → Tableau → ℕ → ℕ
 entry_rows vs t k = entry_row vs (entry_after vs t k) (variable_at vs k)
 

@@ -14,7 +14,7 @@
 //! Definitions:
 //!
 //! - `Entry`: `IsAmong vs v`, `NamesBasics vs t` (the list names the basic variables in ascending order); the rule as a relation,
-//!   `CanTake` and `IsEntry vs p r`, and as a function, `entry_row vs t j`, `entry_after vs t k` (the tableau after `k` turns),
+//!   `CanTake` and `IsEntry vs p r`, and as a function, `entry_row vs t j`, `entry_after vs t k` (the tableau after `k` variables),
 //!   `entry vs t`. `Least`: the least number that passes a test.
 //! - `Basics`: `basics_of t`, the basic variables in ascending order.
 //! - `Directions`: `HaveSameForms t u`, what tableaus of the same coefficients and goal share, whatever their bounds. `Ready`: `IsFresh t`
@@ -26,10 +26,10 @@
 //!
 //! - Which variables can be basic, and which signs has the goal row? `Directions`: `some_row`, `no_more_basics`, `dual_by_forms`. From
 //!   rows: `same_forms` (`SameRows`).
-//! - What does the choice of a row say? `Rows`: `CanEnter`, `entry_row_found`, `entry_row_is`, `turn_column`, `turn_slack`; `Least`.
+//! - What does the choice of a row say? `Rows`: `CanEnter`, `entry_row_found`, `entry_row_is`, `pivot_column`, `pivot_slack`; `Least`.
 //! - What is the tableau on its way? `Entering`: `IsEntering vs m w n t`; `Entered`: `finds_row` (a column always finds its row),
 //!   `ready_place`, `ready_rows`, and of the end `entry_basics`, `entry_dual`, `entry_names`, `entry_keeps`, `entry_stands`.
-//! - Are relation and function the same? `Turns`: `is_entry`, `only_entry`.
+//! - Are relation and function the same? `Pivots`: `is_entry`, `only_entry`.
 //! - What of an entry doesn't hang on the bounds? `SameCells`: `same_row`, `same_after`, and `same_all` (with the same bounds it is the
 //!   same tableau).
 //! - Is a sort the list of the basic variables? `Sorted`: `names_sorted`, `sorted_is`; `Basics`: `names_basics_of`, `names_only`.

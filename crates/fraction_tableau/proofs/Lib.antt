@@ -15,6 +15,6 @@ pub mod Named
 pub mod Shares
 pub mod Small
 pub mod Making
-pub mod Turns
+pub mod Divisions
 pub mod Refusals
 pub mod LoadingLaws

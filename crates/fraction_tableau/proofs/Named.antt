@@ -1,16 +1,16 @@
 -- The first operation of a pivot's list that leaves 128 bits is the one that is refused.
 use Rattle.std.proofs.Common.{◌≡◌, ℕ, zero, suc, pos, Bool, true, false, true≢false, cond, eqb, Option, Some, None, List, [], ◌∷◌, ◌++◌, length, get_or, refl, sym, ◌∙◌, ap, ap₂, subst}
 use Rattle.rational_theory.specs.Rational.{ℚ, whole, ◌*ℚ◌}
-use Rattle.simplex_theory.specs.Lines.{turned}
+use Rattle.simplex_theory.specs.Lines.{divided}
 use Rattle.simplex_theory.specs.Tableau.{Tableau, line, height, cell}
 use Rattle.narrow_fraction.specs.Attempt.{earlier, first_below}
 use Rattle.narrow_fraction.proofs.Attempt.{first_same, neither, some_not_none}
 use Rattle.narrow_fraction.specs.Past128.{Fits128, Past128, is_past}
 use Rattle.narrow_fraction.proofs.Past128.{past_none, past_some, fits_within, within}
 use Rattle.narrow_fraction.specs.declared.wide.Op.TheVariants.{Mul, Div, Sub}
-use Rattle.fraction_tableau.specs.Refusals.{at_cell, refused, turn_refusal, clear_refusal, pivot_refusal}
+use Rattle.fraction_tableau.specs.Refusals.{at_cell, refused, divide_refusal, clear_refusal, pivot_refusal}
 use Rattle.fraction_tableau.proofs.Refusals.{refused_none}
-use Rattle.fraction_tableau.specs.Operations.{operation, listed_below, listed_others, turn_operations, cell_operations, clear_operations, pivot_operations, AllFit, IsFirstPast, IsRefusalOf}
+use Rattle.fraction_tableau.specs.Operations.{operation, listed_below, listed_others, divide_operations, cell_operations, clear_operations, pivot_operations, AllFit, IsFirstPast, IsRefusalOf}
 use Rattle.fraction_tableau.specs.declared.wide_cell.WideCell.{WideCell}
 
 -- ---- the first of a list that is refused
@@ -48,9 +48,9 @@ first_others f g j n e =
     ∙ first_same (λ k. first_of (cond (eqb k j) [] (f k))) (λ k. cond (eqb k j) None (g k)) n (λ k h. first_but (eqb k j) (f k) (g k) (e k))
 
 -- ---- of a pivot's list
-first_turn : (i j : ℕ) (c : List ℚ) → first_of (turn_operations i j c) ≡ turn_refusal i j c
-unfolding turn_refusal
-first_turn i j c =
+first_divide : (i j : ℕ) (c : List ℚ) → first_of (divide_operations i j c) ≡ divide_refusal i j c
+unfolding divide_refusal
+first_divide i j c =
     ap (λ o. earlier (refused Div (whole (pos 1)) (get_or c j (whole (pos 0))) i j) o)
     (first_others (λ k. operation Div (get_or c k (whole (pos 0))) (get_or c j (whole (pos 0))) i k ∷ []) (λ k. refused Div (get_or c k (whole (pos 0))) (get_or c j (whole (pos 0))) i k)
     j (length c) (λ k. earlier_none _))
@@ -72,14 +72,14 @@ first_clear i j e p d =
 first_pivot : (r j : ℕ) (t : Tableau) → first_of (pivot_operations r j t) ≡ pivot_refusal r j t.rows t.goal
 unfolding pivot_refusal
 first_pivot r j t =
-    let e = turned j (line t r) in
-    let others = listed_others (λ i. clear_operations i j (turned j (line t r)) (cell t r j) (line t i)) r (height t) in
-    first_append (turn_operations r j (line t r)) (clear_operations (height t) j (turned j (line t r)) (cell t r j) t.goal ++ others)
-    ∙ ap₂ earlier (first_turn r j (line t r))
-    (first_append (clear_operations (height t) j (turned j (line t r)) (cell t r j) t.goal) others
-    ∙ ap₂ earlier (first_clear (height t) j (turned j (line t r)) (cell t r j) t.goal)
-    (first_others (λ i. clear_operations i j (turned j (line t r)) (cell t r j) (line t i)) (λ i. clear_refusal i j (turned j (line t r)) (line t i) (cell t r j)) r (height t)
-    (λ i. first_clear i j (turned j (line t r)) (cell t r j) (line t i))))
+    let e = divided j (line t r) in
+    let others = listed_others (λ i. clear_operations i j (divided j (line t r)) (cell t r j) (line t i)) r (height t) in
+    first_append (divide_operations r j (line t r)) (clear_operations (height t) j (divided j (line t r)) (cell t r j) t.goal ++ others)
+    ∙ ap₂ earlier (first_divide r j (line t r))
+    (first_append (clear_operations (height t) j (divided j (line t r)) (cell t r j) t.goal) others
+    ∙ ap₂ earlier (first_clear (height t) j (divided j (line t r)) (cell t r j) t.goal)
+    (first_others (λ i. clear_operations i j (divided j (line t r)) (cell t r j) (line t i)) (λ i. clear_refusal i j (divided j (line t r)) (line t i) (cell t r j)) r (height t)
+    (λ i. first_clear i j (divided j (line t r)) (cell t r j) (line t i))))
 
 -- ---- what a refusal says
 same_some : {A : Type 0} (x y : A) → Some x ≡ Some y → x ≡ y

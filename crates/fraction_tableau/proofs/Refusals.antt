@@ -7,7 +7,7 @@ use Rattle.narrow_fraction.proofs.Past128.{past_none, past_some}
 use Rattle.narrow_fraction.specs.declared.wide.Op.{Op}
 use Rattle.narrow_fraction.specs.declared.wide.Op.TheVariants.{Div}
 use Rattle.narrow_fraction.specs.declared.wide.Wide.{Wide}
-use Rattle.fraction_tableau.specs.Refusals.{at_cell, refused, turn_refusal, turn_at}
+use Rattle.fraction_tableau.specs.Refusals.{at_cell, refused, divide_refusal, divide_at}
 use Rattle.fraction_tableau.specs.declared.wide_cell.WideCell.{WideCell}
 
 -- ---- from the clauses of an operation
@@ -20,6 +20,6 @@ unfolding refused
 refused_some op x y i k w h = ap (at_cell i k) (past_some op x y h.1) ∙ ap (λ (t : Wide). at_cell i k (Some t)) (sym h.0)
 
 -- ---- the pivot's own row is refused at the reciprocal already
-pub turns_first : (i j : ℕ) (o p : ℚ) (c : List ℚ) (w : WideCell) → o ≡ whole (pos 1) → p ≡ get_or c j (whole (pos 0)) → refused Div o p i j ≡ Some w → turn_refusal i j c ≡ Some w
-unfolding turn_refusal
-turns_first i j o p c w a e f = ap (λ q. earlier q (first_below (turn_at i j c) (length c))) (ap₂ (λ x y. refused Div x y i j) (sym a) (sym e) ∙ f)
+pub divides_first : (i j : ℕ) (o p : ℚ) (c : List ℚ) (w : WideCell) → o ≡ whole (pos 1) → p ≡ get_or c j (whole (pos 0)) → refused Div o p i j ≡ Some w → divide_refusal i j c ≡ Some w
+unfolding divide_refusal
+divides_first i j o p c w a e f = ap (λ q. earlier q (first_below (divide_at i j c) (length c))) (ap₂ (λ x y. refused Div x y i j) (sym a) (sym e) ∙ f)

@@ -85,7 +85,7 @@ over_part n d g h k = same_ratio _ _ _ _ _ _ _ _ (over_ratio n d h) (over_terms 
 abbrev pub combined : ℕ → ℤ → ℤ → ℤ → ℤ
 combined m f a x = a *ℤ pos m +ℤ neg_ℤ (f *ℤ x)
 
--- with the row's number a/d, its factor (f g)/d and the turned number x/(m g): a/d - (f g)/d x/(m g) is (a m - f x)/(d m)
+-- with the row's number a/d, its factor (f g)/d and the divided number x/(m g): a/d - (f g)/d x/(m g) is (a m - f x)/(d m)
 cleared_over : (a f x : ℤ) (d m g : ℕ) → 0 < d → 0 < m → 0 < g
     → over a d +ℚ neg_ℚ (over (f *ℤ pos g) d *ℚ over x (m * g)) ≡ over (combined m f a x) (d * m)
 cleared_over a f x d m g h k l =
@@ -119,18 +119,19 @@ pub zeroed_fits : (b : Bool) (n : ℤ) → SFits w64 n → SFits w64 (cond b (po
 zeroed_fits true n h = fits_i64 (pos 0) (omega arith)
 zeroed_fits false n h = h
 
--- the new number, of the row's number a and the turned row's number t
-pub joined_number : (j : Joining) (b : Bool) (n : ℤ) (t : ℚ) → IsJoining j → IsOver j.turned.denominator j.turned.most t
-    → over (combined j.rescaling.times j.part (cond b (pos 0) n) (numerator j.turned.denominator t)) j.rescaling.to ≡ cond b (whole (pos 0)) (over n j.row.denominator) +ℚ neg_ℚ (factor_of j *ℚ t)
+-- the new number, of the row's number a and the divided row's number t
+pub joined_number : (j : Joining) (b : Bool) (n : ℤ) (t : ℚ) → IsJoining j → IsOver j.divided.denominator j.divided.most t
+    → over (combined j.rescaling.times j.part (cond b (pos 0) n) (numerator j.divided.denominator t)) j.rescaling.to ≡ cond b (whole (pos 0)) (over n j.row.denominator) +ℚ neg_ℚ (factor_of j *ℚ t)
 joined_number j b n t i q =
-    let x = numerator j.turned.denominator t in
-    let s : over x (j.rescaling.times * j.shared) ≡ t = ap (over x) i.turned ∙ q.same in
+    let x = numerator j.divided.denominator t in
+    let s : over x (j.rescaling.times * j.shared) ≡ t = ap (over x) i.divided ∙ q.same in
     ap (over (combined j.rescaling.times j.part (cond b (pos 0) n) x)) i.to
     ∙ sym (cleared_over (cond b (pos 0) n) j.part x j.row.denominator j.rescaling.times j.shared i.above i.times i.shared)
     ∙ ap₂ (λ u v. u +ℚ neg_ℚ (factor_of j *ℚ v)) (zeroed b n j.row.denominator i.above) s
 
-pub joined_is : (j : Joining) (b : Bool) (a t : ℚ) → IsJoining j → IsOver j.row.denominator j.row.most a → IsOver j.turned.denominator j.turned.most t
-    → over (combined j.rescaling.times j.part (cond b (pos 0) (numerator j.row.denominator a)) (numerator j.turned.denominator t)) j.rescaling.to ≡ cond b (whole (pos 0)) a +ℚ neg_ℚ (factor_of j *ℚ t)
+pub joined_is : (j : Joining) (b : Bool) (a t : ℚ) → IsJoining j → IsOver j.row.denominator j.row.most a → IsOver j.divided.denominator j.divided.most t
+    → over (combined j.rescaling.times j.part (cond b (pos 0) (numerator j.row.denominator a)) (numerator j.divided.denominator t)) j.rescaling.to
+    ≡ cond b (whole (pos 0)) a +ℚ neg_ℚ (factor_of j *ℚ t)
 joined_is j b a t i p q = joined_number j b (numerator j.row.denominator a) t i q ∙ ap (λ u. cond b (whole (pos 0)) u +ℚ neg_ℚ (factor_of j *ℚ t)) p.same
 
 -- 0 has the numerator 0 over anything
@@ -138,25 +139,25 @@ pub numerator_zero : (d : ℕ) (x : ℚ) → x ≡ whole (pos 0) → numerator d
 unfolding whole
 numerator_zero d x e = ap (numerator d) e ∙ zero-*ℤ (pos (d / 1))
 
-pub joined_size : (j : Joining) (b : Bool) (n x : ℤ) → IsJoining j → unsigned_abs n ≤ j.row.most → unsigned_abs x ≤ j.turned.most
+pub joined_size : (j : Joining) (b : Bool) (n x : ℤ) → IsJoining j → unsigned_abs n ≤ j.row.most → unsigned_abs x ≤ j.divided.most
     → unsigned_abs (combined j.rescaling.times j.part (cond b (pos 0) n) x) ≤ j.most
 joined_size j b n x i p q =
-    let s = combined_size (cond b (pos 0) n) j.part x j.rescaling.times j.row.most j.turned.most (zeroed_size b n j.row.most p) q in
+    let s = combined_size (cond b (pos 0) n) j.part x j.rescaling.times j.row.most j.divided.most (zeroed_size b n j.row.most p) q in
     omega (arith, s, i.most)
 
 pub times_short : (j : Joining) → IsJoining j → j.rescaling.times < 2 ^ 62
 times_short j i = let l : 1 ≤ j.row.most = omega (arith, i.above, i.least) in let p = mul-le-mul_right j.rescaling.times l in omega (arith, p, i.most, i.short)
 
-pub turned_above : (j : Joining) → IsJoining j → 0 < j.turned.denominator
-turned_above j i = subst (λ n. 0 < n) i.turned (mul-pos i.times i.shared)
+pub divided_above : (j : Joining) → IsJoining j → 0 < j.divided.denominator
+divided_above j i = subst (λ n. 0 < n) i.divided (mul-pos i.times i.shared)
 
 pub part_short : (j : Joining) → IsJoining j → unsigned_abs j.part < 2 ^ 62
-part_short j i = let l : 1 ≤ j.turned.most = omega (arith, turned_above j i, i.turned_least) in let p = mul-le-mul_right (unsigned_abs j.part) l in omega (arith, p, i.most, i.short)
+part_short j i = let l : 1 ≤ j.divided.most = omega (arith, divided_above j i, i.divided_least) in let p = mul-le-mul_right (unsigned_abs j.part) l in omega (arith, p, i.most, i.short)
 
-pub joined_bound : (j : Joining) (b : Bool) (n x : ℤ) → IsJoining j → unsigned_abs n ≤ j.row.most → unsigned_abs x ≤ j.turned.most
+pub joined_bound : (j : Joining) (b : Bool) (n x : ℤ) → IsJoining j → unsigned_abs n ≤ j.row.most → unsigned_abs x ≤ j.divided.most
     → unsigned_abs (cond b (pos 0) n) * unsigned_abs (pos j.rescaling.times) + unsigned_abs j.part * unsigned_abs x < 2 ^ 62
 joined_bound j b n x i p q =
-    let s = at_most (unsigned_abs (cond b (pos 0) n)) j.rescaling.times j.row.most (unsigned_abs j.part) (unsigned_abs x) j.turned.most (zeroed_size b n j.row.most p) q in
+    let s = at_most (unsigned_abs (cond b (pos 0) n)) j.rescaling.times j.row.most (unsigned_abs j.part) (unsigned_abs x) j.divided.most (zeroed_size b n j.row.most p) q in
     omega (arith, s, i.most, i.short)
 
 pub to_above : (j : Joining) → IsJoining j → 0 < j.rescaling.to
@@ -165,13 +166,13 @@ to_above j i = rw i.to (mul-pos i.above i.times)
 pub to_least : (j : Joining) → IsJoining j → j.rescaling.to ≤ j.most
 to_least j i = let p = mul-le-mul_right j.rescaling.times i.least in omega (arith, p, i.to, i.most)
 
-pub joined_over : (j : Joining) (b : Bool) (a t : ℚ) → IsJoining j → IsOver j.row.denominator j.row.most a → IsOver j.turned.denominator j.turned.most t
+pub joined_over : (j : Joining) (b : Bool) (a t : ℚ) → IsJoining j → IsOver j.row.denominator j.row.most a → IsOver j.divided.denominator j.divided.most t
     → IsOver j.rescaling.to j.most (cond b (whole (pos 0)) a +ℚ neg_ℚ (factor_of j *ℚ t))
 joined_over j b a t i p q =
-    is_over (combined j.rescaling.times j.part (cond b (pos 0) (numerator j.row.denominator a)) (numerator j.turned.denominator t)) j.rescaling.to j.most _ (to_above j i)
+    is_over (combined j.rescaling.times j.part (cond b (pos 0) (numerator j.row.denominator a)) (numerator j.divided.denominator t)) j.rescaling.to j.most _ (to_above j i)
     (sym (joined_is j b a t i p q)) (joined_size j b _ _ i p.size q.size)
 
--- ---- the whole row d, cleared at place j by the turned row e
+-- ---- the whole row d, cleared at place j by the divided row e
 pub cleared_number : (j k : ℕ) (e d : List ℚ) → j < length d → cond (eqb k j) (whole (pos 0)) (number_in d k) +ℚ neg_ℚ (number_in d j *ℚ number_in e k) ≡ number_in (cleared j e d) k
 cleared_number j k e d h = pick (cases_eq k j)
   where
@@ -183,13 +184,13 @@ cleared_number j k e d h = pick (cases_eq k j)
         ap (λ t. t +ℚ neg_ℚ (number_in d j *ℚ number_in e k)) (cond-false (eqb k j) (whole (pos 0)) (number_in d k) (ne_eqb k j n))
         ∙ ap (λ t. number_in d k +ℚ t) (sym (neg-*ℚ _ _)) ∙ sym (cleared_other j k e d n)
 
-pub cleared_scaled : (j : Joining) (e d : List ℚ) → IsJoining j → IsScaled j.row d → IsScaled j.turned e → factor_of j ≡ number_in d j.place → j.place < length d
+pub cleared_scaled : (j : Joining) (e d : List ℚ) → IsJoining j → IsScaled j.row d → IsScaled j.divided e → factor_of j ≡ number_in d j.place → j.place < length d
     → (k : ℕ) → IsOver j.rescaling.to j.most (number_in (cleared j.place e d) k)
 cleared_scaled j e d i p q f h k =
     subst (IsOver j.rescaling.to j.most) (ap (λ t. cond (eqb k j.place) (whole (pos 0)) (number_in d k) +ℚ neg_ℚ (t *ℚ number_in e k)) f ∙ cleared_number j.place k e d h)
     (joined_over j (eqb k j.place) (number_in d k) (number_in e k) i (p.numbers k) (q.numbers k))
 
--- where the turned row has 0, the number stays
+-- where the divided row has 0, the number stays
 pub quiet_is : (j m : ℕ) (e d : List ℚ) → (number_in e j ≡ whole (pos 0) → ⊥) → number_in e m ≡ whole (pos 0) → number_in (cleared j e d) m ≡ number_in d m
 quiet_is j m e d n z = cleared_other j m e d (λ q. n (ap (number_in e) (sym q) ∙ z)) ∙ ap (λ t. number_in d m +ℚ neg_ℚ (number_in d j) *ℚ t) z ∙ ap (λ t. number_in d m +ℚ t) (*ℚ-zero _) ∙ +ℚ-zero _
 
@@ -206,7 +207,7 @@ pub first_above : (m g e : ℕ) → m * g ≡ e → 0 < e → 0 < m
 first_above zero g e h k = absurd (omega (arith, h, k))
 first_above (suc m) g e h k = omega arith
 
--- ---- the walk over the turned row's cells
+-- ---- the walk over the divided row's cells
 
 pub joined_next : (target d : List ℚ) (now new : List Kept) (taken made put marks : ℕ) (k : Kept) → length new ≡ length now → k.place < length now
     → taken ≡ length (kept_below (number_in d) (k.place + 1)) → made ≤ k.place

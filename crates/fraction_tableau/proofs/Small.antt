@@ -9,7 +9,7 @@ use Rattle.narrow_fraction.specs.Attempt.{earlier, first_below}
 use Rattle.narrow_fraction.specs.Fraction.{FitsFrac}
 use Rattle.narrow_fraction.proofs.Small.{IsSmall, product_fits, difference_fits, over_small}
 use Rattle.narrow_fraction.specs.declared.wide.Op.TheVariants.{Mul, Div, Sub}
-use Rattle.fraction_tableau.specs.Refusals.{refused, turn_at, clear_at, turn_refusal, clear_refusal}
+use Rattle.fraction_tableau.specs.Refusals.{refused, divide_at, clear_at, divide_refusal, clear_refusal}
 use Rattle.fraction_tableau.specs.Scales.{IsScaled}
 use Rattle.fraction_tableau.specs.declared.scale.Scale.{Scale}
 use Rattle.fraction_tableau.proofs.Refusals.{refused_none}
@@ -58,11 +58,11 @@ other_none false x e = e
 pub quotient_free : (x y : ℚ) (i k : ℕ) → (y ≡ whole (pos 0) → ⊥) → IsSmall (2 ^ 42) x → IsSmall (2 ^ 42) y → refused Div x y i k ≡ None
 quotient_free x y i k n h g = refused_none Div x y i k (quotient_fits x y n h g)
 
-pub turn_free : (i j : ℕ) (c : List ℚ) → AreSmall c → (get_or c j (whole (pos 0)) ≡ whole (pos 0) → ⊥) → turn_refusal i j c ≡ None
-unfolding turn_refusal
-turn_free i j c h n =
+pub divide_free : (i j : ℕ) (c : List ℚ) → AreSmall c → (get_or c j (whole (pos 0)) ≡ whole (pos 0) → ⊥) → divide_refusal i j c ≡ None
+unfolding divide_refusal
+divide_free i j c h n =
     earlier_none _ _ (quotient_free (whole (pos 1)) (get_or c j (whole (pos 0))) i j n one_small (h.small j))
-    (first_none (turn_at i j c) (length c) (λ k. other_none (eqb k j) _ (quotient_free (get_or c k (whole (pos 0))) (get_or c j (whole (pos 0))) i k n (h.small k) (h.small j))))
+    (first_none (divide_at i j c) (length c) (λ k. other_none (eqb k j) _ (quotient_free (get_or c k (whole (pos 0))) (get_or c j (whole (pos 0))) i k n (h.small k) (h.small j))))
 
 pub clear_free : (i j : ℕ) (e d : List ℚ) (p : ℚ) → AreSmall e → AreSmall d → IsSmall (2 ^ 42) p → (p ≡ whole (pos 0) → ⊥) → clear_refusal i j e d p ≡ None
 unfolding clear_refusal

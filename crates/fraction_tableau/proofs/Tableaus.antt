@@ -5,7 +5,7 @@ use Rattle.std.proofs.lemmas.List.FromFn.{length-range_with_len}
 use Rattle.std.proofs.lemmas.Bool.{cases_lt}
 use Rattle.std.specs.List.{range_with_len}
 use Rattle.rational_theory.specs.Rational.{ℚ, whole}
-use Rattle.simplex_theory.specs.Lines.{turned, cleared}
+use Rattle.simplex_theory.specs.Lines.{divided, cleared}
 use Rattle.simplex_theory.specs.Tableau.{Tableau, exchange, line, width}
 use Rattle.named_row.specs.Sheets.{Sheet}
 use Rattle.named_row.specs.declared.names.RowId.{RowId}
@@ -92,7 +92,7 @@ unfolding with_goal_bound
 goal_bound_is t x goal e = λ i. record { table = record { rows = t.table.rows; goal = e i; basic = t.table.basic; standing = t.table.standing }; names = t.names; spent = t.spent }
 
 -- ---- a pivot
-pub new_table : (t : Tableau) (r j : ℕ) (rows : List (List ℚ)) (goal : List ℚ) (basic standing : List ℕ) → rows ≡ exchanged_rows r j t.rows → goal ≡ cleared j (turned j (get_or t.rows r [])) t.goal
+pub new_table : (t : Tableau) (r j : ℕ) (rows : List (List ℚ)) (goal : List ℚ) (basic standing : List ℕ) → rows ≡ exchanged_rows r j t.rows → goal ≡ cleared j (divided j (get_or t.rows r [])) t.goal
     → basic ≡ set t.basic r (get_or t.standing j 0) → standing ≡ set t.standing j (get_or t.basic r 0)
     → record { rows = rows; goal = goal; basic = basic; standing = standing } ≡ exchange r j t
 unfolding exchange exchanged_rows

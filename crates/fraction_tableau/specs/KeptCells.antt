@@ -40,16 +40,16 @@ pub record IsSparse (w count : ℕ) (cells : List Kept) : Type 0 where
   pub inside : count ≤ w
   pub ordered : cells ≡ kept_below (cell_in cells) w
 
--- ---- turning and merging
--- the number at place k of the row c turned at place j, with v at place j
-abbrev pub turned_cell : ℕ → ℚ → List ℚ → ℕ → ℚ
-turned_cell j v c k = cond (eqb k j) v (number_in c k *ℚ inverse_ℚ (number_in c j))
+-- ---- dividing and merging
+-- the number at place k of the row c divided at place j, with v at place j
+abbrev pub divided_cell : ℕ → ℚ → List ℚ → ℕ → ℚ
+divided_cell j v c k = cond (eqb k j) v (number_in c k *ℚ inverse_ℚ (number_in c j))
 
--- the number at place k of the row d cleared at place j by the turned row e, with v at place j
+-- the number at place k of the row d cleared at place j by the divided row e, with v at place j
 abbrev pub merged_at : ℕ → ℚ → List ℚ → List ℚ → ℕ → ℚ
 merged_at j v e d k = cond (eqb k j) v (number_in d k +ℚ neg_ℚ (number_in d j *ℚ number_in e k))
 
--- of the merge into `cells` of row d, of number i, with the turned row e, the places below done.below are done
+-- of the merge into `cells` of row d, of number i, with the divided row e, the places below done.below are done
 pub record IsMerged (i j : ℕ) (v : ℚ) (e d : List ℚ) (cells : List Kept) (done : Merged) : Type 0 where
   pub inside : done.below ≤ length cells
   pub taken : done.taken ≡ length (kept_below (number_in d) done.below)

@@ -1,7 +1,7 @@
 -- The operations of a pivot as one list, in their order, and the first of a list that leaves 128 bits.
 use Rattle.std.proofs.Common.{◌≡◌, ◌↔◌, ℕ, zero, suc, pos, cond, eqb, Option, Some, None, List, [], ◌∷◌, ◌++◌, length, get_or}
 use Rattle.rational_theory.specs.Rational.{ℚ, whole, ◌*ℚ◌}
-use Rattle.simplex_theory.specs.Lines.{turned}
+use Rattle.simplex_theory.specs.Lines.{divided}
 use Rattle.simplex_theory.specs.Tableau.{Tableau, line, height, cell}
 use Rattle.narrow_fraction.specs.Past128.{Fits128, Past128}
 use Rattle.narrow_fraction.specs.declared.wide.Op.{Op}
@@ -24,12 +24,12 @@ listed_others f j n = listed_below (λ k. cond (eqb k j) [] (f k)) n
 
 -- ---- the list
 -- the pivot's own row c, of number i: 1 over the cell at j, then each other cell over it
-abbrev pub turn_operations : ℕ → ℕ → List ℚ → List WideCell
-turn_operations i j c =
+abbrev pub divide_operations : ℕ → ℕ → List ℚ → List WideCell
+divide_operations i j c =
     operation Div (whole (pos 1)) (get_or c j (whole (pos 0))) i j
     ∷ listed_others (λ k. operation Div (get_or c k (whole (pos 0))) (get_or c j (whole (pos 0))) i k ∷ []) j (length c)
 
--- one cell of another row d, of number i, by the turned row e: the product, and the difference
+-- one cell of another row d, of number i, by the divided row e: the product, and the difference
 abbrev pub cell_operations : ℕ → ℕ → List ℚ → List ℚ → ℕ → List WideCell
 cell_operations i j e d k =
     operation Mul (get_or d j (whole (pos 0))) (get_or e k (whole (pos 0))) i k
@@ -42,9 +42,9 @@ clear_operations i j e p d = listed_others (cell_operations i j e d) j (length d
 -- the pivot on row r and place j: its own row, the goal row, and each other row in order
 abbrev pub pivot_operations : ℕ → ℕ → Tableau → List WideCell
 pivot_operations r j t =
-    turn_operations r j (line t r)
-    ++ (clear_operations (height t) j (turned j (line t r)) (cell t r j) t.goal
-    ++ listed_others (λ i. clear_operations i j (turned j (line t r)) (cell t r j) (line t i)) r (height t))
+    divide_operations r j (line t r)
+    ++ (clear_operations (height t) j (divided j (line t r)) (cell t r j) t.goal
+    ++ listed_others (λ i. clear_operations i j (divided j (line t r)) (cell t r j) (line t i)) r (height t))
 
 -- ---- which is refused
 -- each fits 128 bits

@@ -8,7 +8,7 @@ use Rattle.fraction_tableau.specs.declared.merging.Merged.{Merged}
 use Rattle.fraction_tableau.specs.declared.scale.Scale.{Scale}
 use Rattle.fraction_tableau.specs.declared.scale.Rescaling.{Rescaling}
 use Rattle.fraction_tableau.specs.declared.joining.Joining.{Joining}
-use Rattle.fraction_tableau.specs.declared.whole_turning.Turning.{Turning}
+use Rattle.fraction_tableau.specs.declared.whole_dividing.Dividing.{Dividing}
 
 -- the numerator of x over d, where it has one
 abbrev pub numerator : ℕ → ℚ → ℤ
@@ -54,17 +54,17 @@ CanRescale r x = (r.times ≡ 1 → ⊥) → IsRescaled r x
 abbrev pub factor_of : Joining → ℚ
 factor_of j = over (j.part *ℤ pos j.shared) j.row.denominator
 
--- no number of more than 62 bits is met where a row at scale j.row is cleared by a turned row at scale j.turned
+-- no number of more than 62 bits is met where a row at scale j.row is cleared by a divided row at scale j.divided
 pub record IsJoining (j : Joining) : Type 0 where
   pub from : j.rescaling.from ≡ j.row.denominator
   pub to : j.rescaling.to ≡ j.row.denominator * j.rescaling.times
   pub above : 0 < j.row.denominator
   pub times : 0 < j.rescaling.times
   pub shared : 0 < j.shared
-  pub turned : j.rescaling.times * j.shared ≡ j.turned.denominator
+  pub divided : j.rescaling.times * j.shared ≡ j.divided.denominator
   pub least : j.row.denominator ≤ j.row.most
-  pub turned_least : j.turned.denominator ≤ j.turned.most
-  pub most : j.row.most * j.rescaling.times + unsigned_abs j.part * j.turned.most ≡ j.most
+  pub divided_least : j.divided.denominator ≤ j.divided.most
+  pub most : j.row.most * j.rescaling.times + unsigned_abs j.part * j.divided.most ≡ j.most
   pub short : j.most < 2 ^ 62
 
 -- of the row `target`, made of the row d, the cells at the places below done.below are made
@@ -75,13 +75,13 @@ pub record IsJoined (target d : List ℚ) (cells : List Kept) (done : Merged) : 
   pub joined : take done.made cells ≡ kept_below (number_in target) done.below
   pub marked : AreMarked done.marks (take done.made cells)
 
--- ---- turning
+-- ---- dividing
 -- the pivot
-abbrev pub pivot_of : Turning → ℚ
+abbrev pub pivot_of : Dividing → ℚ
 pivot_of t = over t.pivot t.row.denominator
 
 -- the pivot isn't 0, and its numerator is one of the row's
-pub record IsTurning (t : Turning) : Type 0 where
+pub record IsDividing (t : Dividing) : Type 0 where
   pub above : 0 < t.row.denominator
   pub least : t.row.denominator ≤ t.row.most
   pub short : t.row.most < 2 ^ 42

@@ -2,7 +2,7 @@
 
 ghost use Rattle.std.specs.Prelude.{◌≡◌, ℕ, ◌+◌, ◌<◌, ◌≤◌, ◌^◌, pos, length, get_or, set, eqb, cond, true, false, None, IfOk, []};
 ghost use Rattle.rational_theory.specs.Rational.{whole};
-ghost use Rattle.simplex_theory.specs.Lines.{turned, cleared};
+ghost use Rattle.simplex_theory.specs.Lines.{divided, cleared};
 ghost use Rattle.narrow_fraction.specs.Attempt.{attempt, first_below};
 ghost use Rattle.fraction_tableau.specs.{Narrow.{IsNarrow, AreNarrow}, RowChanges.{IsPivoted, Clears}, KeptCells.{number_in}};
 ghost use Rattle.fraction_tableau.specs.{Refusals.{row_refusal, pivot_refusal, exchanged_rows}, Columns.{AreNoted}};
@@ -50,21 +50,21 @@ fn note(column: &mut [Quotient], index: usize, factor: &Quotient)
 fn clear_one(
     sparse_rows: &mut [SparseRow],
     room: &mut SparseRow,
-    turned: &SparseRow,
+    divided: &SparseRow,
     pivot: &Pivot,
     index: usize,
 ) -> Result<(), WideCell>
     requires inside { index < length sparse_rows.old }
     requires few { length sparse_rows.old < 2 ^ 32 }
-    requires width { length (get_or sparse_rows.old index []) ≡ length turned.now }
-    requires room { length room.old ≡ length turned.now }
-    requires pivot { IsPivoted turned.now pivot.now.place pivot.now.cell }
+    requires width { length (get_or sparse_rows.old index []) ≡ length divided.now }
+    requires room { length room.old ≡ length divided.now }
+    requires pivot { IsPivoted divided.now pivot.now.place pivot.now.cell }
     requires narrow { AreNarrow sparse_rows.old }
-    ensures outcome { result ≡ attempt (row_refusal pivot.now.row pivot.now.place turned.now pivot.now.cell sparse_rows.old index) tt }
+    ensures outcome { result ≡ attempt (row_refusal pivot.now.row pivot.now.place divided.now pivot.now.cell sparse_rows.old index) tt }
     ensures kept { (k : ℕ) → length (get_or sparse_rows.new k []) ≡ length (get_or sparse_rows.old k []) }
     ensures room { length room.new ≡ length room.old }
     ensures cleared { IfOk result (λ _. sparse_rows.new ≡ cond (eqb index pivot.now.row) sparse_rows.old
-        (set sparse_rows.old index (cleared pivot.now.place turned.now (get_or sparse_rows.old index [])))) }
+        (set sparse_rows.old index (cleared pivot.now.place divided.now (get_or sparse_rows.old index [])))) }
     ensures narrow { AreNarrow sparse_rows.new }
 {
     if index == pivot.row {
@@ -80,44 +80,44 @@ fn clear_one(
         pivot: pivot.cell,
         factor,
     };
-    if let Err(wide) = room.clear(&sparse_rows[index], turned, &elimination) {
+    if let Err(wide) = room.clear(&sparse_rows[index], divided, &elimination) {
         return Err(wide);
     }
     mem::swap(&mut sparse_rows[index], room);
     Ok(())
 }
 
-/// One row cleared by whole numbers, where it and the turned row are narrow. Else, and where it is the pivot's own row, it
+/// One row cleared by whole numbers, where it and the divided row are narrow. Else, and where it is the pivot's own row, it
 /// stays, and the answer is false. Apart from `clear_one`, since a call pays for the room of all that it names, and few rows
 /// come there.
 #[inline(never)]
 fn clear_whole(
     sparse_rows: &mut [SparseRow],
     room: &mut SparseRow,
-    turned: &SparseRow,
+    divided: &SparseRow,
     pivot: &Pivot,
     index: usize,
     factor: &Quotient,
 ) -> bool
     requires inside { index < length sparse_rows.old }
     requires few { length sparse_rows.old < 2 ^ 32 }
-    requires width { length (get_or sparse_rows.old index []) ≡ length turned.now }
-    requires room { length room.old ≡ length turned.now }
-    requires pivot { IsPivoted turned.now pivot.now.place pivot.now.cell }
+    requires width { length (get_or sparse_rows.old index []) ≡ length divided.now }
+    requires room { length room.old ≡ length divided.now }
+    requires pivot { IsPivoted divided.now pivot.now.place pivot.now.cell }
     requires factor { factor.now ≡ number_in (get_or sparse_rows.old index []) pivot.now.place }
     requires narrow { AreNarrow sparse_rows.old }
-    ensures passed { result ≡ true → row_refusal pivot.now.row pivot.now.place turned.now pivot.now.cell sparse_rows.old index ≡ None }
+    ensures passed { result ≡ true → row_refusal pivot.now.row pivot.now.place divided.now pivot.now.cell sparse_rows.old index ≡ None }
     ensures kept { (k : ℕ) → length (get_or sparse_rows.new k []) ≡ length (get_or sparse_rows.old k []) }
     ensures room { length room.new ≡ length room.old }
     ensures cleared { result ≡ true → sparse_rows.new ≡ cond (eqb index pivot.now.row) sparse_rows.old
-        (set sparse_rows.old index (cleared pivot.now.place turned.now (get_or sparse_rows.old index []))) }
+        (set sparse_rows.old index (cleared pivot.now.place divided.now (get_or sparse_rows.old index []))) }
     ensures stays { result ≡ false → sparse_rows.new ≡ sparse_rows.old }
     ensures narrow { AreNarrow sparse_rows.new }
 {
     if index == pivot.row {
         return false;
     }
-    if !room.clear_narrow(&sparse_rows[index], turned, pivot.place, factor) {
+    if !room.clear_narrow(&sparse_rows[index], divided, pivot.place, factor) {
         return false;
     }
     room.narrow();
@@ -129,20 +129,20 @@ fn clear_whole(
 fn clear_others(
     sparse_rows: &mut [SparseRow],
     room: &mut SparseRow,
-    turned: &SparseRow,
+    divided: &SparseRow,
     pivot: &Pivot,
     column: &mut [Quotient],
 ) -> Result<(), WideCell>
     requires few { length sparse_rows.old < 2 ^ 32 }
-    requires widths { (i : ℕ) → i < length sparse_rows.old → length (get_or sparse_rows.old i []) ≡ length turned.now }
-    requires room { length room.old ≡ length turned.now }
-    requires pivot { IsPivoted turned.now pivot.now.place pivot.now.cell }
+    requires widths { (i : ℕ) → i < length sparse_rows.old → length (get_or sparse_rows.old i []) ≡ length divided.now }
+    requires room { length room.old ≡ length divided.now }
+    requires pivot { IsPivoted divided.now pivot.now.place pivot.now.cell }
     requires narrow { AreNarrow sparse_rows.old }
-    ensures outcome { result ≡ attempt (first_below (row_refusal pivot.now.row pivot.now.place turned.now pivot.now.cell sparse_rows.old) (length sparse_rows.old)) tt }
+    ensures outcome { result ≡ attempt (first_below (row_refusal pivot.now.row pivot.now.place divided.now pivot.now.cell sparse_rows.old) (length sparse_rows.old)) tt }
     ensures kept { (k : ℕ) → length (get_or sparse_rows.new k []) ≡ length (get_or sparse_rows.old k []) }
     ensures room { length room.new ≡ length room.old }
     ensures cleared { IfOk result (λ _. (k : ℕ) → k < length sparse_rows.old → (k ≡ pivot.now.row → ⊥)
-        → get_or sparse_rows.new k [] ≡ cleared pivot.now.place turned.now (get_or sparse_rows.old k [])) }
+        → get_or sparse_rows.new k [] ≡ cleared pivot.now.place divided.now (get_or sparse_rows.old k [])) }
     ensures narrow { AreNarrow sparse_rows.new }
     ensures noted { IfOk result (λ _. AreNoted sparse_rows.old pivot.now.place (length sparse_rows.old) column.new) }
     ensures later { (k : ℕ) → length sparse_rows.old ≤ k → number_in column.new k ≡ number_in column.old k }
@@ -153,10 +153,10 @@ fn clear_others(
         if factor.is_zero() {
             continue;
         }
-        if clear_whole(sparse_rows, room, turned, pivot, index, &factor) {
+        if clear_whole(sparse_rows, room, divided, pivot, index, &factor) {
             continue;
         }
-        if let Err(wide) = clear_one(sparse_rows, room, turned, pivot, index) {
+        if let Err(wide) = clear_one(sparse_rows, room, divided, pivot, index) {
             return Err(wide);
         }
     }
@@ -167,16 +167,16 @@ fn clear_others(
 fn clear_goal(
     spare: &mut SparseRow,
     goal: &SparseRow,
-    turned: &SparseRow,
+    divided: &SparseRow,
     number: u32,
     pivot: &Pivot,
     column: &mut [Quotient],
 ) -> Result<(), WideCell>
-    requires width { length goal.now ≡ length turned.now }
-    requires spare { length spare.old ≡ length turned.now }
-    requires pivot { IsPivoted turned.now pivot.now.place pivot.now.cell }
+    requires width { length goal.now ≡ length divided.now }
+    requires spare { length spare.old ≡ length divided.now }
+    requires pivot { IsPivoted divided.now pivot.now.place pivot.now.cell }
     requires narrow { IsNarrow goal.now }
-    ensures cleared { Clears number pivot.now.place goal.now turned.now pivot.now.cell result spare.old spare.new }
+    ensures cleared { Clears number pivot.now.place goal.now divided.now pivot.now.cell result spare.old spare.new }
     ensures noted { number < length column.old → number_in column.new number ≡ number_in goal.now pivot.now.place }
 {
     let factor = goal.held(pivot.place);
@@ -191,11 +191,11 @@ fn clear_goal(
         pivot: pivot.cell,
         factor,
     };
-    spare.clear(goal, turned, &elimination)
+    spare.clear(goal, divided, &elimination)
 }
 
 /// The cells of an exchange on a row and a place: the rows in place, and the goal row into `spare`.
-/// The turned row is made in `held` and takes its place last, and `room` is for one row after another. What each row and then
+/// The divided row is made in `held` and takes its place last, and `room` is for one row after another. What each row and then
 /// the goal row had at the place is noted in `column`, as far as there is room.
 pub fn exchange_cells(
     sparse_rows: &mut [SparseRow],
@@ -223,7 +223,7 @@ pub fn exchange_cells(
     ensures held { length held.new ≡ length held.old }
     ensures room { length room.new ≡ length room.old }
     ensures rows { IfOk result (λ _. sparse_rows.new ≡ exchanged_rows at.row at.col sparse_rows.old) }
-    ensures goal_row { IfOk result (λ _. spare.new ≡ cleared at.col (turned at.col (get_or sparse_rows.old at.row [])) goal.now) }
+    ensures goal_row { IfOk result (λ _. spare.new ≡ cleared at.col (divided at.col (get_or sparse_rows.old at.row [])) goal.now) }
     ensures narrow { AreNarrow sparse_rows.new }
     ensures narrow_goal { IfOk result (λ _. IsNarrow spare.new) }
     ensures noted { IfOk result (λ _. AreNoted sparse_rows.old at.col (length sparse_rows.old) column.new) }
@@ -236,7 +236,7 @@ pub fn exchange_cells(
         place: at.col,
         cell: sparse_rows[row].cell(at.col),
     };
-    if let Err(wide) = held.turn(&sparse_rows[row], at.row, at.col) {
+    if let Err(wide) = held.divide(&sparse_rows[row], at.row, at.col) {
         return Err(wide);
     }
     if let Err(wide) = clear_goal(spare, goal, held, sparse_rows.len() as u32, &pivot, column) {

@@ -2,15 +2,15 @@
 
 ghost use Rattle.std.specs.Prelude.{◌≡◌, ◌+◌, length, take, IfOk, IfErr};
 ghost use Rattle.rational_theory.specs.Rational.{neg_ℚ};
-ghost use Rattle.simplex_theory.specs.Lines.{turned, cleared};
+ghost use Rattle.simplex_theory.specs.Lines.{divided, cleared};
 ghost use Rattle.narrow_fraction.specs.Attempt.{attempt};
-ghost use Rattle.fraction_tableau.specs.{Narrow.{IsNarrow}, Refusals.{turn_refusal, clear_refusal}, RowChanges.{CanTurn, CanClear}};
+ghost use Rattle.fraction_tableau.specs.{Narrow.{IsNarrow}, Refusals.{divide_refusal, clear_refusal}, RowChanges.{CanDivide, CanClear}};
 ghost use Rattle.fraction_tableau.specs.KeptCells.{dense_row, IsSparse};
 
+use crate::dividing::divide_cells;
 use crate::kept::Kept;
 use crate::merging::{Clearing, cleared_number, merge};
 use crate::sparse_row::SparseRow;
-use crate::turning::turn_cells;
 use crate::wide_cell::{Spot, WideCell};
 use narrow_fraction::{Frac, Quotient};
 
@@ -56,13 +56,13 @@ fn negated_or(quotient: &Result<Frac, WideCell>, other: Frac) -> Frac
     }
 }
 
-/// The pivot's own row, turned: one over the cell at `place`, and the other cells over that cell.
-pub fn turn_row(cells: &mut [Kept], row: &SparseRow, number: u32, place: u32) -> Made
-    requires { CanTurn (length cells.old + 1) row.now place }
-    ensures outcome { result.outcome ≡ attempt (turn_refusal number place row.now) tt }
+/// The pivot's own row, divided: one over the cell at `place`, and the other cells over that cell.
+pub fn divide_row(cells: &mut [Kept], row: &SparseRow, number: u32, place: u32) -> Made
+    requires { CanDivide (length cells.old + 1) row.now place }
+    ensures outcome { result.outcome ≡ attempt (divide_refusal number place row.now) tt }
     ensures line { IsSparse (length cells.old) result.count (take result.count cells.new) }
-    ensures turned { IfOk result.outcome (λ _. dense_row (length cells.old) (take result.count cells.new) result.bound ≡ turned place row.now) }
-    ensures narrow { IfOk result.outcome (λ _. IsNarrow (turned place row.now)) }
+    ensures divided { IfOk result.outcome (λ _. dense_row (length cells.old) (take result.count cells.new) result.bound ≡ divided place row.now) }
+    ensures narrow { IfOk result.outcome (λ _. IsNarrow (divided place row.now)) }
 {
     let pivot = row.cell(place);
     let own = Spot {
@@ -73,11 +73,11 @@ pub fn turn_row(cells: &mut [Kept], row: &SparseRow, number: u32, place: u32) ->
         Ok(value) => value,
         Err(wide) => return Made::refused(wide),
     };
-    let turned = Kept {
+    let divided = Kept {
         place,
         cell: Quotient::of_fraction(reciprocal),
     };
-    let count = match turn_cells(cells, row, number, &turned, pivot) {
+    let count = match divide_cells(cells, row, number, &divided, pivot) {
         Ok(count) => count,
         Err(wide) => return Made::refused(wide),
     };
@@ -95,20 +95,20 @@ pub fn turn_row(cells: &mut [Kept], row: &SparseRow, number: u32, place: u32) ->
     }
 }
 
-/// Another row cleared: each number less the factor times the turned row's, and at the place the negated quotient of the
+/// Another row cleared: each number less the factor times the divided row's, and at the place the negated quotient of the
 /// factor and the pivot. The quotient is made before the merge and its refusal kept for the end, since its operation is the
 /// row's last.
 pub fn clear_row(
     cells: &mut [Kept],
     row: &SparseRow,
-    turned: &SparseRow,
+    divided: &SparseRow,
     elimination: &Elimination,
 ) -> Made
-    requires { CanClear (length cells.old + 1) row.now turned.now elimination.now.place elimination.now.pivot elimination.now.factor }
-    ensures outcome { result.outcome ≡ attempt (clear_refusal elimination.now.number elimination.now.place turned.now row.now elimination.now.pivot) tt }
+    requires { CanClear (length cells.old + 1) row.now divided.now elimination.now.place elimination.now.pivot elimination.now.factor }
+    ensures outcome { result.outcome ≡ attempt (clear_refusal elimination.now.number elimination.now.place divided.now row.now elimination.now.pivot) tt }
     ensures line { IsSparse (length cells.old) result.count (take result.count cells.new) }
-    ensures cleared { IfOk result.outcome (λ _. dense_row (length cells.old) (take result.count cells.new) result.bound ≡ cleared elimination.now.place turned.now row.now) }
-    ensures narrow { IfOk result.outcome (λ _. IsNarrow (cleared elimination.now.place turned.now row.now)) }
+    ensures cleared { IfOk result.outcome (λ _. dense_row (length cells.old) (take result.count cells.new) result.bound ≡ cleared elimination.now.place divided.now row.now) }
+    ensures narrow { IfOk result.outcome (λ _. IsNarrow (cleared elimination.now.place divided.now row.now)) }
 {
     let number = elimination.number;
     let place = elimination.place;
@@ -126,7 +126,7 @@ pub fn clear_row(
         },
         factor,
     };
-    let count = match merge(cells, row, turned, &clearing) {
+    let count = match merge(cells, row, divided, &clearing) {
         Ok(count) => count,
         Err(wide) => return Made::refused(wide),
     };
@@ -134,7 +134,7 @@ pub fn clear_row(
         row: number,
         col: cells.len() as u32,
     };
-    let bound = match cleared_number(last, row.bound(), turned.bound(), factor) {
+    let bound = match cleared_number(last, row.bound(), divided.bound(), factor) {
         Ok(bound) => bound,
         Err(wide) => return Made::refused(wide),
     };

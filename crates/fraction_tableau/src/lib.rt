@@ -9,19 +9,20 @@
 //!
 //! A refused pivot leaves the tableau spent, and its goal row, basic and standing variables and names are those before. The
 //! contract speaks of all operations; the code leaves out those with an operand 0, which are proved never to be refused: a row is a
-//! list of its cells that aren't 0, with the bound apart, and is merged with the turned row into a spare list. A word marks the
+//! list of its cells that aren't 0, with the bound apart, and is merged with the divided row into a spare list. A word marks the
 //! places of its cells (`specs/Marks.antt`), so that most rows without a cell at the pivot's place are passed over by one test.
 //! `law_first_refused` says that the refused operation is the first of the list that leaves 128 bits, and that none is refused
 //! exactly where all fit. Only `new` and `basis` take memory.
 //!
 //! A row is narrow or wide, which no contract tells: narrow where its cells and its bound stand over one denominator and no number
-//! has more than 42 bits (`specs/Scales.antt`). It is turned, and cleared by a narrow row, in whole numbers, with one common
+//! has more than 42 bits (`specs/Scales.antt`). It is divided, and cleared by a narrow row, in whole numbers, with one common
 //! divisor and one test of sizes a row. That no operation on the fractions is refused then is proved (`proofs/Small.antt`), so the
 //! answers stay exact. A row that fails the test is cleared by fractions, and made narrow again where its numbers fit over their
 //! least common denominator.
 #![tactic(auto)]
 
 mod basis;
+mod dividing;
 mod exchanging;
 mod fractions;
 mod fresh;
@@ -35,8 +36,7 @@ mod narrowing;
 mod scale;
 mod sparse_row;
 mod tableau;
-mod turning;
-mod whole_turning;
+mod whole_dividing;
 mod wide_cell;
 
 pub use kept::Kept;

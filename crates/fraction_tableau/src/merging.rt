@@ -1,4 +1,4 @@
-//! A row and the turned row merged, place by place in order, and only at places where one of them isn't 0.
+//! A row and the divided row merged, place by place in order, and only at places where one of them isn't 0.
 
 ghost use Rattle.std.specs.Prelude.{◌≡◌, ℕ, ◌+◌, ◌<◌, ◌≤◌, ◌^◌, None, Some, pos, cond, eqb, length, take, unsigned_abs, IfOk, IfErr};
 ghost use Rattle.rational_theory.specs.Rational.{whole, over, neg_ℚ, ◌+ℚ◌, ◌*ℚ◌};
@@ -187,64 +187,64 @@ pub fn take_numerator(row: &SparseRow, taken: usize, place: u32, denominator: u6
     }
 }
 
-/// A number less `factor` times the turned row's.
+/// A number less `factor` times the divided row's.
 pub fn cleared_number(
     spot: Spot,
     number: Frac,
-    turned: Frac,
+    divided: Frac,
     factor: Frac,
 ) -> Result<Frac, WideCell>
-    ensures outcome { result ≡ attempt (less_refusal spot.row spot.col factor turned number) (number +ℚ neg_ℚ (factor *ℚ turned)) }
+    ensures outcome { result ≡ attempt (less_refusal spot.row spot.col factor divided number) (number +ℚ neg_ℚ (factor *ℚ divided)) }
     ensures fits { IfOk result (λ value. FitsFrac value) }
 {
-    let part = match spot.times(factor, turned) {
+    let part = match spot.times(factor, divided) {
         Ok(value) => value,
         Err(wide) => return Err(wide),
     };
     spot.minus(number, part)
 }
 
-/// The new cell at the place of a cell of the turned row.
-fn cleared_cell(clearing: &Clearing, cell: Frac, turned: &Kept) -> Result<Frac, WideCell>
+/// The new cell at the place of a cell of the divided row.
+fn cleared_cell(clearing: &Clearing, cell: Frac, divided: &Kept) -> Result<Frac, WideCell>
     requires { FitsFrac clearing.now.own.cell }
-    ensures outcome { result ≡ attempt (cond (eqb turned.now.place clearing.now.own.place) None (less_refusal clearing.now.number turned.now.place clearing.now.factor turned.now.cell cell))
-        (cond (eqb turned.now.place clearing.now.own.place) clearing.now.own.cell (cell +ℚ neg_ℚ (clearing.now.factor *ℚ turned.now.cell))) }
+    ensures outcome { result ≡ attempt (cond (eqb divided.now.place clearing.now.own.place) None (less_refusal clearing.now.number divided.now.place clearing.now.factor divided.now.cell cell))
+        (cond (eqb divided.now.place clearing.now.own.place) clearing.now.own.cell (cell +ℚ neg_ℚ (clearing.now.factor *ℚ divided.now.cell))) }
     ensures fits { IfOk result (λ value. FitsFrac value) }
 {
-    if turned.place == clearing.own.place {
+    if divided.place == clearing.own.place {
         return Ok(clearing.own.cell.fraction());
     }
     let spot = Spot {
         row: clearing.number,
-        col: turned.place,
+        col: divided.place,
     };
-    cleared_number(spot, cell, turned.cell.fraction(), clearing.factor)
+    cleared_number(spot, cell, divided.cell.fraction(), clearing.factor)
 }
 
-/// The next cell of the turned row, and the row's cells before it.
+/// The next cell of the divided row, and the row's cells before it.
 fn merge_next(
     cells: &mut [Kept],
     row: &SparseRow,
-    turned: &SparseRow,
+    divided: &SparseRow,
     index: usize,
     clearing: &Clearing,
     done: Merged,
 ) -> Result<Merged, WideCell>
     requires width { length row.now ≡ length cells.old + 1 }
-    requires widths { length turned.now ≡ length row.now }
+    requires widths { length divided.now ≡ length row.now }
     requires short { length row.now < 2 ^ 32 }
-    requires own { number_in turned.now clearing.now.own.place ≡ whole (pos 0) → ⊥ }
+    requires own { number_in divided.now clearing.now.own.place ≡ whole (pos 0) → ⊥ }
     requires factor { clearing.now.factor ≡ number_in row.now clearing.now.own.place }
     requires fits { FitsFrac clearing.now.own.cell }
     requires narrow { IsNarrow row.now }
-    requires inside { index < length (kept_below (number_in turned.now) (length cells.old)) }
-    requires index { index ≡ length (kept_below (number_in turned.now) done.below) }
-    requires merged { IsMerged clearing.now.number clearing.now.own.place clearing.now.own.cell turned.now row.now cells.old done }
-    ensures merged { IfOk result (λ next. IsMerged clearing.now.number clearing.now.own.place clearing.now.own.cell turned.now row.now cells.new next) }
-    ensures index { IfOk result (λ next. index + 1 ≡ length (kept_below (number_in turned.now) next.below)) }
-    ensures refused { IfErr result (λ wide. first_below (clear_at clearing.now.number clearing.now.own.place turned.now row.now) (length cells.old) ≡ Some wide) }
+    requires inside { index < length (kept_below (number_in divided.now) (length cells.old)) }
+    requires index { index ≡ length (kept_below (number_in divided.now) done.below) }
+    requires merged { IsMerged clearing.now.number clearing.now.own.place clearing.now.own.cell divided.now row.now cells.old done }
+    ensures merged { IfOk result (λ next. IsMerged clearing.now.number clearing.now.own.place clearing.now.own.cell divided.now row.now cells.new next) }
+    ensures index { IfOk result (λ next. index + 1 ≡ length (kept_below (number_in divided.now) next.below)) }
+    ensures refused { IfErr result (λ wide. first_below (clear_at clearing.now.number clearing.now.own.place divided.now row.now) (length cells.old) ≡ Some wide) }
 {
-    let others = turned.kept();
+    let others = divided.kept();
     let next = &others[index];
     let done = keep_before(cells, row, done, next.place, AS_IT_IS);
     let own = take_at(row, done.taken, next.place);
@@ -268,30 +268,30 @@ fn merge_next(
     })
 }
 
-/// The cells of the row cleared by the turned row. The answer is how many there are.
+/// The cells of the row cleared by the divided row. The answer is how many there are.
 pub fn merge(
     cells: &mut [Kept],
     row: &SparseRow,
-    turned: &SparseRow,
+    divided: &SparseRow,
     clearing: &Clearing,
 ) -> Result<usize, WideCell>
     requires width { length row.now ≡ length cells.old + 1 }
-    requires widths { length turned.now ≡ length row.now }
+    requires widths { length divided.now ≡ length row.now }
     requires short { length row.now < 2 ^ 32 }
-    requires own { number_in turned.now clearing.now.own.place ≡ whole (pos 0) → ⊥ }
+    requires own { number_in divided.now clearing.now.own.place ≡ whole (pos 0) → ⊥ }
     requires factor { clearing.now.factor ≡ number_in row.now clearing.now.own.place }
     requires fits { FitsFrac clearing.now.own.cell }
     requires narrow { IsNarrow row.now }
-    ensures passed { IfOk result (λ _. first_below (clear_at clearing.now.number clearing.now.own.place turned.now row.now) (length cells.old) ≡ None) }
-    ensures refused { IfErr result (λ wide. first_below (clear_at clearing.now.number clearing.now.own.place turned.now row.now) (length cells.old) ≡ Some wide) }
+    ensures passed { IfOk result (λ _. first_below (clear_at clearing.now.number clearing.now.own.place divided.now row.now) (length cells.old) ≡ None) }
+    ensures refused { IfErr result (λ wide. first_below (clear_at clearing.now.number clearing.now.own.place divided.now row.now) (length cells.old) ≡ Some wide) }
     ensures count { IfOk result (λ count. count ≤ length cells.old) }
-    ensures cells { IfOk result (λ count. take count cells.new ≡ kept_below (merged_at clearing.now.own.place clearing.now.own.cell turned.now row.now) (length cells.old)) }
-    ensures fits { IfOk result (λ _. (m : ℕ) → m < length cells.old → FitsFrac (merged_at clearing.now.own.place clearing.now.own.cell turned.now row.now m)) }
+    ensures cells { IfOk result (λ count. take count cells.new ≡ kept_below (merged_at clearing.now.own.place clearing.now.own.cell divided.now row.now) (length cells.old)) }
+    ensures fits { IfOk result (λ _. (m : ℕ) → m < length cells.old → FitsFrac (merged_at clearing.now.own.place clearing.now.own.cell divided.now row.now m)) }
 {
     let width = cells.len() as u32;
     let mut done = UNMERGED;
-    for index in 0..turned.kept().len() {
-        match merge_next(cells, row, turned, index, clearing, done) {
+    for index in 0..divided.kept().len() {
+        match merge_next(cells, row, divided, index, clearing, done) {
             Ok(next) => done = next,
             Err(wide) => return Err(wide),
         }

@@ -129,7 +129,7 @@ pub fn hold_where(cells: &mut [Kept], count: usize, denominator: u64)
 
 /// The scale of the first `count` cells and the bound over the denominator without what it has in common with their
 /// numerators, over which the cells are held then, or else over their least common one.
-fn divided_scale(
+fn reduced_scale(
     cells: &mut [Kept],
     count: usize,
     bound: &Quotient,
@@ -143,9 +143,9 @@ fn divided_scale(
     ensures bound { IfSome result (λ scale. IsOver scale.denominator scale.most bound.now) }
     ensures cells { IfSome result (λ scale. (i : ℕ) → i < count → IsOver scale.denominator scale.most (cell_at cells.old i)) }
 {
-    let divided = divided_denominator(cells, count, bound, denominator);
-    hold_where(cells, count, divided);
-    match measured_over(cells, count, bound, divided) {
+    let reduced = reduced_denominator(cells, count, bound, denominator);
+    hold_where(cells, count, reduced);
+    match measured_over(cells, count, bound, reduced) {
         Some(scale) => Some(scale),
         None => least_scale(cells, count, bound),
     }
@@ -164,7 +164,7 @@ fn find_scale(cells: &mut [Kept], count: usize, bound: &Quotient, denominator: u
 {
     match measured_over(cells, count, bound, denominator) {
         Some(scale) => Some(scale),
-        None => divided_scale(cells, count, bound, denominator),
+        None => reduced_scale(cells, count, bound, denominator),
     }
 }
 
@@ -255,7 +255,7 @@ fn shared_divisor(cells: &[Kept], count: usize, bound: &Quotient, denominator: u
 }
 
 /// A denominator without what it has in common with the numerators over it: a guess, which is tested. 0 stays 0.
-pub fn divided_denominator(cells: &[Kept], count: usize, bound: &Quotient, denominator: u64) -> u64
+pub fn reduced_denominator(cells: &[Kept], count: usize, bound: &Quotient, denominator: u64) -> u64
     requires { count ≤ length cells.now }
 {
     if denominator == 0 {

@@ -2,22 +2,22 @@
 
 ghost use Rattle.std.specs.Prelude.{◌≡◌, ◌+◌, ◌-◌, ◌<◌, ◌≤◌, ◌^◌, ℕ, None, true, false, pos, length, replicate, IfOk, IfSome};
 ghost use Rattle.rational_theory.specs.Rational.{ℚ, whole, inverse_ℚ};
-ghost use Rattle.simplex_theory.specs.Lines.{turned, cleared};
-ghost use Rattle.fraction_tableau.specs.{Narrow.{IsNarrow}, Refusals.{turn_refusal, clear_refusal}, KeptCells.{number_in, kept_below}};
-ghost use Rattle.fraction_tableau.specs.{RowChanges.{CanTurn, Turns, CanClear, Clears}, NamedTableaus.{row_cells, goal_cells, rebound}};
-ghost use Rattle.fraction_tableau.specs.Scales.{IsOver, IsScaled, IsJoining, IsTurning, factor_of, pivot_of};
+ghost use Rattle.simplex_theory.specs.Lines.{divided, cleared};
+ghost use Rattle.fraction_tableau.specs.{Narrow.{IsNarrow}, Refusals.{divide_refusal, clear_refusal}, KeptCells.{number_in, kept_below}};
+ghost use Rattle.fraction_tableau.specs.{RowChanges.{CanDivide, Divides, CanClear, Clears}, NamedTableaus.{row_cells, goal_cells, rebound}};
+ghost use Rattle.fraction_tableau.specs.Scales.{IsOver, IsScaled, IsJoining, IsDividing, factor_of, pivot_of};
 
-use crate::fractions::{Elimination, clear_row, turn_row};
+use crate::fractions::{Elimination, clear_row, divide_row};
 use crate::joining::{Joining, find_joining, join, joined};
 use crate::kept::Kept;
 use crate::loading::{fill_goal, fill_row};
 use crate::marks::{ALL_MARKED, is_free, marked_below, marks_of};
 use crate::merging::{UNMERGED, keep_before};
 use crate::narrowing::{
-    divided_denominator, grown, held_over, held_where, hold_narrow, hold_where,
+    grown, held_over, held_where, hold_narrow, hold_where, reduced_denominator,
 };
 use crate::scale::{AS_IT_IS, Scale, numerator_of};
-use crate::whole_turning::{Turning, turn_whole};
+use crate::whole_dividing::{Dividing, divide_whole};
 use crate::wide_cell::WideCell;
 use named_row::{Place, Row};
 use narrow_fraction::{Frac, Quotient};
@@ -334,60 +334,60 @@ impl SparseRow {
         ensures { self.new ≡ self.old }
     {
         if let Some(scale) = self.scale {
-            let divided = divided_denominator(
+            let reduced = reduced_denominator(
                 &self.cells,
                 self.count,
                 &self.bound,
                 scale.denominator,
             );
-            if divided != scale.denominator {
-                self.hold(divided);
+            if reduced != scale.denominator {
+                self.hold(reduced);
             }
         }
         self.narrow();
     }
 
-    /// How this row is turned at a place, where it is narrow.
-    fn turning(&self, place: u32) -> Option<Turning>
+    /// How this row is divided at a place, where it is narrow.
+    fn dividing(&self, place: u32) -> Option<Dividing>
         requires place { place + 1 < length self.now }
         requires pivot { number_in self.now place ≡ whole (pos 0) → ⊥ }
-        ensures place { IfSome result (λ turning. turning.place ≡ place) }
-        ensures turning { IfSome result (λ turning. IsTurning turning) }
-        ensures row { IfSome result (λ turning. IsScaled turning.row self.now) }
-        ensures pivot { IfSome result (λ turning. pivot_of turning ≡ number_in self.now place) }
+        ensures place { IfSome result (λ dividing. dividing.place ≡ place) }
+        ensures dividing { IfSome result (λ dividing. IsDividing dividing) }
+        ensures row { IfSome result (λ dividing. IsScaled dividing.row self.now) }
+        ensures pivot { IfSome result (λ dividing. pivot_of dividing ≡ number_in self.now place) }
     {
         let Some(row) = self.scale else {
             return None;
         };
         let pivot = numerator_of(&self.held(place), row.denominator);
-        Some(Turning { place, row, pivot })
+        Some(Dividing { place, row, pivot })
     }
 
-    /// How this row is cleared at a place by a turned row, where both are narrow and no number might pass 62 bits.
+    /// How this row is cleared at a place by a divided row, where both are narrow and no number might pass 62 bits.
     #[inline(always)]
-    fn joining(&self, turned: &SparseRow, place: u32, factor: &Quotient) -> Option<Joining>
-        requires widths { length turned.now ≡ length self.now }
+    fn joining(&self, divided: &SparseRow, place: u32, factor: &Quotient) -> Option<Joining>
+        requires widths { length divided.now ≡ length self.now }
         requires place { place + 1 < length self.now }
         requires factor { factor.now ≡ number_in self.now place }
         ensures place { IfSome result (λ joining. joining.place ≡ place) }
         ensures joining { IfSome result (λ joining. IsJoining joining) }
         ensures factor { IfSome result (λ joining. factor_of joining ≡ factor.now) }
         ensures row { IfSome result (λ joining. IsScaled joining.row self.now) }
-        ensures turned { IfSome result (λ joining. IsScaled joining.turned turned.now) }
+        ensures divided { IfSome result (λ joining. IsScaled joining.divided divided.now) }
     {
-        let (Some(own), Some(other)) = (self.scale, turned.scale) else {
+        let (Some(own), Some(other)) = (self.scale, divided.scale) else {
             return None;
         };
         let numerator = numerator_of(factor, own.denominator);
         find_joining(place, own, other, numerator)
     }
 
-    /// Becomes the pivot's own row, turned, by fractions.
-    fn turn_fractions(&mut self, row: &SparseRow, number: u32, place: u32) -> Result<(), WideCell>
-        requires { CanTurn (length self.old) row.now place }
-        ensures { Turns number place row.now result self.old self.new }
+    /// Becomes the pivot's own row, divided, by fractions.
+    fn divide_fractions(&mut self, row: &SparseRow, number: u32, place: u32) -> Result<(), WideCell>
+        requires { CanDivide (length self.old) row.now place }
+        ensures { Divides number place row.now result self.old self.new }
     {
-        let made = turn_row(&mut self.cells, row, number, place);
+        let made = divide_row(&mut self.cells, row, number, place);
         self.count = made.count;
         self.bound = Quotient::of_fraction(made.bound);
         self.scale = None;
@@ -396,43 +396,43 @@ impl SparseRow {
         made.outcome
     }
 
-    /// Becomes the pivot's own row, turned, by whole numbers, where that row is narrow; else it stays, and the answer is
+    /// Becomes the pivot's own row, divided, by whole numbers, where that row is narrow; else it stays, and the answer is
     /// false. No operation on the fractions is refused then.
-    fn turn_narrow(&mut self, row: &SparseRow, place: u32) -> bool
-        requires { CanTurn (length self.old) row.now place }
-        ensures passed { result ≡ true → (i : ℕ) → turn_refusal i place row.now ≡ None }
-        ensures turned { result ≡ true → self.new ≡ turned place row.now }
+    fn divide_narrow(&mut self, row: &SparseRow, place: u32) -> bool
+        requires { CanDivide (length self.old) row.now place }
+        ensures passed { result ≡ true → (i : ℕ) → divide_refusal i place row.now ≡ None }
+        ensures divided { result ≡ true → self.new ≡ divided place row.now }
         ensures width { length self.new ≡ length self.old }
         ensures narrow { result ≡ true → IsNarrow self.new }
     {
-        let Some(turning) = row.turning(place) else {
+        let Some(dividing) = row.dividing(place) else {
             return false;
         };
-        self.count = turn_whole(&mut self.cells, row, &turning);
-        self.bound = turning.turned(&row.bound, false);
-        self.scale = Some(turning.scale());
+        self.count = divide_whole(&mut self.cells, row, &dividing);
+        self.bound = dividing.divided(&row.bound, false);
+        self.scale = Some(dividing.scale());
         self.marks = ALL_MARKED;
         self.denominator = 0;
         true
     }
 
-    /// Becomes the pivot's own row, turned, by whole numbers or else by fractions.
-    fn turn_either(&mut self, row: &SparseRow, number: u32, place: u32) -> Result<(), WideCell>
-        requires { CanTurn (length self.old) row.now place }
-        ensures { Turns number place row.now result self.old self.new }
+    /// Becomes the pivot's own row, divided, by whole numbers or else by fractions.
+    fn divide_either(&mut self, row: &SparseRow, number: u32, place: u32) -> Result<(), WideCell>
+        requires { CanDivide (length self.old) row.now place }
+        ensures { Divides number place row.now result self.old self.new }
     {
-        if self.turn_narrow(row, place) {
+        if self.divide_narrow(row, place) {
             return Ok(());
         }
-        self.turn_fractions(row, number, place)
+        self.divide_fractions(row, number, place)
     }
 
-    /// Becomes the pivot's own row, turned: one over the cell at `place`, and the other cells over that cell.
-    pub fn turn(&mut self, row: &SparseRow, number: u32, place: u32) -> Result<(), WideCell>
-        requires { CanTurn (length self.old) row.now place }
-        ensures { Turns number place row.now result self.old self.new }
+    /// Becomes the pivot's own row, divided: one over the cell at `place`, and the other cells over that cell.
+    pub fn divide(&mut self, row: &SparseRow, number: u32, place: u32) -> Result<(), WideCell>
+        requires { CanDivide (length self.old) row.now place }
+        ensures { Divides number place row.now result self.old self.new }
     {
-        let outcome = self.turn_either(row, number, place);
+        let outcome = self.divide_either(row, number, place);
         self.reduce();
         self.mark();
         outcome
@@ -443,13 +443,13 @@ impl SparseRow {
     fn clear_fractions(
         &mut self,
         row: &SparseRow,
-        turned: &SparseRow,
+        divided: &SparseRow,
         elimination: &Elimination,
     ) -> Result<(), WideCell>
-        requires { CanClear (length self.old) row.now turned.now elimination.now.place elimination.now.pivot elimination.now.factor }
-        ensures { Clears elimination.now.number elimination.now.place row.now turned.now elimination.now.pivot result self.old self.new }
+        requires { CanClear (length self.old) row.now divided.now elimination.now.place elimination.now.pivot elimination.now.factor }
+        ensures { Clears elimination.now.number elimination.now.place row.now divided.now elimination.now.pivot result self.old self.new }
     {
-        let made = clear_row(&mut self.cells, row, turned, elimination);
+        let made = clear_row(&mut self.cells, row, divided, elimination);
         self.count = made.count;
         self.bound = Quotient::of_fraction(made.bound);
         self.scale = None;
@@ -464,29 +464,29 @@ impl SparseRow {
     pub fn clear_narrow(
         &mut self,
         row: &SparseRow,
-        turned: &SparseRow,
+        divided: &SparseRow,
         place: u32,
         factor: &Quotient,
     ) -> bool
         requires width { length self.old ≡ length row.now }
-        requires widths { length turned.now ≡ length row.now }
+        requires widths { length divided.now ≡ length row.now }
         requires place { place + 1 < length row.now }
         requires factor { factor.now ≡ number_in row.now place }
-        requires own { number_in turned.now place ≡ whole (pos 0) → ⊥ }
+        requires own { number_in divided.now place ≡ whole (pos 0) → ⊥ }
         requires short { length row.now < 2 ^ 32 }
-        ensures passed { result ≡ true → (i : ℕ) (pivot : ℚ) → (pivot ≡ whole (pos 0) → ⊥) → number_in turned.now place ≡ inverse_ℚ pivot
-            → clear_refusal i place turned.now row.now pivot ≡ None }
-        ensures cleared { result ≡ true → self.new ≡ cleared place turned.now row.now }
+        ensures passed { result ≡ true → (i : ℕ) (pivot : ℚ) → (pivot ≡ whole (pos 0) → ⊥) → number_in divided.now place ≡ inverse_ℚ pivot
+            → clear_refusal i place divided.now row.now pivot ≡ None }
+        ensures cleared { result ≡ true → self.new ≡ cleared place divided.now row.now }
         ensures width { length self.new ≡ length self.old }
         ensures narrow { result ≡ true → IsNarrow self.new }
     {
-        let Some(joining) = row.joining(turned, place, factor) else {
+        let Some(joining) = row.joining(divided, place, factor) else {
             return false;
         };
-        let made = join(&mut self.cells, row, turned, &joining);
+        let made = join(&mut self.cells, row, divided, &joining);
         self.count = made.made;
         let own = numerator_of(&row.bound, joining.row.denominator);
-        self.bound = joined(&joining, own, false, &turned.bound);
+        self.bound = joined(&joining, own, false, &divided.bound);
         self.scale = joining.scale();
         self.marks = made.marks;
         self.denominator = joining.rescaling.to;
@@ -497,33 +497,33 @@ impl SparseRow {
     fn clear_either(
         &mut self,
         row: &SparseRow,
-        turned: &SparseRow,
+        divided: &SparseRow,
         elimination: &Elimination,
     ) -> Result<(), WideCell>
-        requires { CanClear (length self.old) row.now turned.now elimination.now.place elimination.now.pivot elimination.now.factor }
-        ensures { Clears elimination.now.number elimination.now.place row.now turned.now elimination.now.pivot result self.old self.new }
+        requires { CanClear (length self.old) row.now divided.now elimination.now.place elimination.now.pivot elimination.now.factor }
+        ensures { Clears elimination.now.number elimination.now.place row.now divided.now elimination.now.pivot result self.old self.new }
     {
-        if self.clear_narrow(row, turned, elimination.place, &elimination.factor) {
+        if self.clear_narrow(row, divided, elimination.place, &elimination.factor) {
             return Ok(());
         }
-        let outcome = self.clear_fractions(row, turned, elimination);
+        let outcome = self.clear_fractions(row, divided, elimination);
         self.mark();
         outcome
     }
 
-    /// Becomes another row cleared: each number less the factor, the row's cell at the place, times the turned row's, and at
+    /// Becomes another row cleared: each number less the factor, the row's cell at the place, times the divided row's, and at
     /// the place the negated quotient of the factor and the pivot.
     #[inline(always)]
     pub fn clear(
         &mut self,
         row: &SparseRow,
-        turned: &SparseRow,
+        divided: &SparseRow,
         elimination: &Elimination,
     ) -> Result<(), WideCell>
-        requires { CanClear (length self.old) row.now turned.now elimination.now.place elimination.now.pivot elimination.now.factor }
-        ensures { Clears elimination.now.number elimination.now.place row.now turned.now elimination.now.pivot result self.old self.new }
+        requires { CanClear (length self.old) row.now divided.now elimination.now.place elimination.now.pivot elimination.now.factor }
+        ensures { Clears elimination.now.number elimination.now.place row.now divided.now elimination.now.pivot result self.old self.new }
     {
-        let outcome = self.clear_either(row, turned, elimination);
+        let outcome = self.clear_either(row, divided, elimination);
         self.narrow();
         outcome
     }

@@ -7,7 +7,7 @@ use Rattle.progression.specs.Green.{BandIsGreen}
 use Rattle.time_space.proofs.Scale.{minus_scale}
 use Rattle.time_space.proofs.FinerGrids.{plus_scale}
 use Rattle.band_measure.proofs.Gaps.{times_times, gap_narrow, gap_from_green, green_from_gap}
-use Rattle.band_measure.proofs.Coarse.{Enough, enough_of, room}
+use Rattle.band_measure.proofs.Coarse.{Enough, enough_of, coarse_gap}
 use Rattle.free_band.specs.Way.{Way, IsProper, Runs, NoneRunsFiner, IsWidestFiner, finer}
 use Rattle.free_band.specs.Rays.{slowest, ray, Step, Chain}
 use Rattle.free_band.specs.Cells.{IsBest, NoBest, BestOf}
@@ -78,7 +78,7 @@ module _ (w : Way) (v : IsProper w) (m : ℕ) (q : 1 ≤ m) where
         let l : k < w.count = omega arith in
         let g = gap_from_green (w.cycle * m) (w.red k * m) (w.start k *ℤ pos m) (c.x k) b (red_finer k l) (short_finer k l) (c.chain.green k h) in
         let e = coarse_times k in
-        let r = room w.cycle (w.red k) m b (w.start k) (coarse k) (pos 0) q (c.x k) (omega (arith, ints, e)) g in
+        let r = coarse_gap w.cycle (w.red k) m b (w.start k) (coarse k) (pos 0) q (c.x k) (omega (arith, ints, e)) g in
         green_from_gap w.cycle (w.red k) (w.start k) (coarse k) least_width.width (v.inside k l) (v.shorter k l)
         (gap_narrow w.cycle (w.red k) (w.start k) (coarse k) r.width r.gap least_width.width (least_width.least r.width r.enough))
 

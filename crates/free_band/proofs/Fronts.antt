@@ -5,8 +5,8 @@ use Rattle.std.specs.Prelude.{MatchOption, IfSome, slice_index_or}
 use Rattle.std.proofs.lemmas.Int.{ints}
 use Rattle.std.proofs.lemmas.Bool.{cases_lt}
 use Rattle.progression.specs.Green.{BandIsGreen}
-use Rattle.band_measure.specs.Rooms.{IsRoom}
-use Rattle.band_measure.proofs.Rooms.{narrower}
+use Rattle.band_measure.specs.Widths.{IsWidestGreen}
+use Rattle.band_measure.proofs.WidestGreens.{narrower}
 use Rattle.band_measure.proofs.Gaps.{gap_from_green}
 use Rattle.free_band.specs.Way.{Way, IsProper, RunsTo, NoneRuns, IsWidest, crossing}
 use Rattle.free_band.specs.Rays.{Same, ray, Chain}
@@ -34,14 +34,15 @@ module _ (w : Way) (v : IsProper w) (i j to : ℕ) (on : i < w.count) (s : Same 
       let p = subst (λ k. Same w.cycle (x i) (ray w k i)) e (c.place i (omega arith)) in
       green_same w.cycle (w.red i) b (w.start i) (x i) (pos to) some (same_then w.cycle (x i) (ray w j i) (pos to) p (same_back w.cycle (pos to) (ray w j i) s)) (c.green i (omega arith))
 
-  pub no_room_cell : ((b : ℕ) → ¬ BandIsGreen w.cycle (w.start i) (w.red i) (pos to) b) → NoCell w i j
-  no_room_cell none x by b c e = none b (green_to x by b c e)
+  pub no_width_cell : ((b : ℕ) → ¬ BandIsGreen w.cycle (w.start i) (w.red i) (pos to) b) → NoCell w i j
+  no_width_cell none x by b c e = none b (green_to x by b c e)
 
-  pub room_most : (wide : ℕ) → IsRoom w.cycle (w.start i) (w.red i) (pos to) wide → (x : ℕ → ℤ) (by : ℕ → ℕ) (b : ℕ) → Chain w i x by b → by i ≡ j → b ≤ wide
-  room_most wide r x by b c e = r.most b (green_to x by b c e)
+  pub width_most : (wide : ℕ) → IsWidestGreen w.cycle (w.start i) (w.red i) (pos to) wide → (x : ℕ → ℤ) (by : ℕ → ℕ) (b : ℕ) → Chain w i x by b → by i ≡ j → b ≤ wide
+  width_most wide r x by b c e = r.most b (green_to x by b c e)
 
 -- ---- the first signal
-pub first_is : (w : Way) (v : IsProper w) (j to band : ℕ) (runs : List ℕ) → length runs ≡ 24 → to < w.cycle → Same w.cycle (pos to) (ray w j 0) → IsRoom w.cycle (w.start 0) (w.red 0) (pos to) band
+pub first_is : (w : Way) (v : IsProper w) (j to band : ℕ) (runs : List ℕ) → length runs ≡ 24 → to < w.cycle → Same w.cycle (pos to) (ray w j 0)
+    → IsWidestGreen w.cycle (w.start 0) (w.red 0) (pos to) band
     → IsCell w 0 j (record { first = to; band = band; runs = runs })
 first_is w v j to band runs n l s r = record {
   front = record {
@@ -55,7 +56,7 @@ first_is w v j to band runs n l s r = record {
     };
   };
   place = s;
-  most = room_most w v 0 j to v.some s band r;
+  most = width_most w v 0 j to v.some s band r;
 }
 
 -- ---- one signal further
@@ -78,7 +79,7 @@ module _ (w : Way) (v : IsProper w) (few : w.count ≤ 24) (i j to : ℕ) (on : 
   no_pick_cell none x by b c e = none x by b (front_chain x by b c e) (c.on i (omega arith))
 
   module _ (row : List (Option FreeBand)) (p : Pick) (cell : FreeBand) (q : IsPick w row i to w.count p) (is : slice_index_or row p.from None ≡ Some cell)
-      (f : IsCell w i p.from cell) (wide band : ℕ) (r : IsRoom w.cycle (w.start (suc i)) (w.red (suc i)) (pos to) wide)
+      (f : IsCell w i p.from cell) (wide band : ℕ) (r : IsWidestGreen w.cycle (w.start (suc i)) (w.red (suc i)) (pos to) wide)
       (one : band ≤ wide) (other : band ≤ cell.band) (top : (b : ℕ) → b ≤ wide → b ≤ cell.band → b ≤ band) where
     abbrev run : ℕ
     run = w.least i + p.late
@@ -140,7 +141,7 @@ module _ (w : Way) (v : IsProper w) (few : w.count ≤ 24) (i j to : ℕ) (on : 
       most = λ x by b c e.
           let g = q.most x by b (front_chain x by b c e) (c.on i (omega arith)) in
           let same = cell_band in
-          top b (room_most w v (suc i) j to on s wide r x by b c e) (omega (arith, g, same));
+          top b (width_most w v (suc i) j to on s wide r x by b c e) (omega (arith, g, same));
     }
 
 -- ---- all signals
@@ -164,5 +165,5 @@ band_below w v (Some f) e =
     let red = v.inside 0 v.some in
     let g = gap_from_green w.cycle (w.red 0) (w.start 0) (pos f.first) f.band red (v.shorter 0 v.some) (e.runs.green 0 v.some) in
     let free = g.free in
-    let room = g.room in
+    let within = g.within in
     omega arith

@@ -1,8 +1,8 @@
 -- The signals and links of one direction in travel order, and the bands on it whose runs may be chosen.
 use Rattle.std.specs.Prelude.{ℕ, zero, suc, ◌+◌, ◌*◌, ◌<◌, ◌≤◌, ◌^◌, List, length, ℤ, pos, ◌+ℤ◌, ◌-ℤ◌, ◌*ℤ◌, unsigned_abs, slice_index_or}
 use Rattle.progression.specs.Green.{BandIsGreen}
-use Rattle.free_band.specs.declared.way.Signal.{Signal}
-use Rattle.free_band.specs.declared.way.Link.{Link}
+use Rattle.free_band.specs.declared.way.WaySignal.{WaySignal}
+use Rattle.free_band.specs.declared.way.WayLink.{WayLink}
 
 -- By the place of the signal in travel order, from 0: where one of its reds starts, and how long they are. By the place of the
 -- signal before the link: the limits of the run, and the clearance at the signal after it. All in ticks.
@@ -75,28 +75,28 @@ pub record IsWay (w : Way) : Type 0 where
   pub start : (i : ℕ) → i < w.count → unsigned_abs (w.start i) < 2 ^ 99
 
 -- ---- as it stands in slices
-abbrev pub signal_of : List Signal → ℕ → Signal
+abbrev pub signal_of : List WaySignal → ℕ → WaySignal
 signal_of signals i = slice_index_or signals i (record { start = pos 0; red = 0 })
 
-abbrev pub start_of : List Signal → ℕ → ℤ
+abbrev pub start_of : List WaySignal → ℕ → ℤ
 start_of signals i = (signal_of signals i).start
 
-abbrev pub red_of : List Signal → ℕ → ℕ
+abbrev pub red_of : List WaySignal → ℕ → ℕ
 red_of signals i = (signal_of signals i).red
 
-abbrev pub link_of : List Link → ℕ → Link
+abbrev pub link_of : List WayLink → ℕ → WayLink
 link_of links i = slice_index_or links i (record { least = 0; most = 0; clear = 0 })
 
-abbrev pub least_of : List Link → ℕ → ℕ
+abbrev pub least_of : List WayLink → ℕ → ℕ
 least_of links i = (link_of links i).least
 
-abbrev pub most_of : List Link → ℕ → ℕ
+abbrev pub most_of : List WayLink → ℕ → ℕ
 most_of links i = (link_of links i).most
 
-abbrev pub clear_of : List Link → ℕ → ℕ
+abbrev pub clear_of : List WayLink → ℕ → ℕ
 clear_of links i = (link_of links i).clear
 
-abbrev pub way : ℕ → List Signal → List Link → Way
+abbrev pub way : ℕ → List WaySignal → List WayLink → Way
 way cycle signals links = record {
   cycle = cycle;
   count = length signals;

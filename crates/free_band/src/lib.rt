@@ -20,4 +20,4 @@ mod way;
 
 pub use measure::widest_free;
 pub use valid::is_way;
-pub use way::{FreeBand, Link, Signal};
+pub use way::{FreeBand, WayLink, WaySignal};

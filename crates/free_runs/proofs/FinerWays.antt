@@ -15,8 +15,8 @@ use Rattle.time_space.proofs.GridLimits.{least_is, most_is}
 use Rattle.time_space.proofs.FinerGrids.{cycle_finer, red_start_finer, red_ticks_finer}
 use Rattle.band_measure.proofs.Gaps.{times_times}
 use Rattle.free_band.specs.Way.{Way, way, IsWay, Runs, NoneRunsFiner, IsWidestFiner, crossing, finer as finer_way, least_of, most_of}
-use Rattle.free_band.specs.declared.way.Signal.{Signal}
-use Rattle.free_band.specs.declared.way.Link.{Link}
+use Rattle.free_band.specs.declared.way.WaySignal.{WaySignal}
+use Rattle.free_band.specs.declared.way.WayLink.{WayLink}
 use Rattle.free_band.specs.declared.way.FreeBand.{FreeBand}
 use Rattle.free_runs.specs.Free.{with_runs, KeepsSpeeds, AreWholeLimits, NoneFreeFiner, IsWidestFree}
 use Rattle.free_runs.specs.Street.{IsWayOf}
@@ -58,7 +58,7 @@ module _ (x : ℚ) (g whole limit m n : ℕ) (e : x *ℚ number g ≡ number who
       let q : whole * m ≤ limit * m = mul-le-mul_right m l in
       omega (arith, r, q)
 
-module _ (a : Street) (t : BaseRecord) (d : Dir) (signals : List Signal) (links : List Link) (h : IsOuterWayOf a t d signals links) (m : ℕ) (q : 1 ≤ m) (out ins : List ℕ)
+module _ (a : Street) (t : BaseRecord) (d : Dir) (signals : List WaySignal) (links : List WayLink) (h : IsOuterWayOf a t d signals links) (m : ℕ) (q : 1 ≤ m) (out ins : List ℕ)
     (k : KeepsSpeeds a (with_runs out ins (finer_base m t)) d) where
   abbrev w : Way
   w = way (cycle a t) signals links
@@ -118,7 +118,7 @@ module _ (a : Street) (t : BaseRecord) (d : Dir) (signals : List Signal) (links 
   widest_on band e x b g = e m x taken b q (on_finer x b g)
 
 -- whole limits hold on finer grids
-pub outer_of : (a : Street) (t : BaseRecord) (d : Dir) (signals : List Signal) (links : List Link) → IsWayOf a t d signals links → AreWholeLimits a t d → IsOuterWayOf a t d signals links
+pub outer_of : (a : Street) (t : BaseRecord) (d : Dir) (signals : List WaySignal) (links : List WayLink) → IsWayOf a t d signals links → AreWholeLimits a t d → IsOuterWayOf a t d signals links
 outer_of a t d signals links h v = record {
   count_signals = h.count_signals;
   count_links = h.count_links;
@@ -136,7 +136,7 @@ outer_of a t d signals links h v = record {
       };
 }
 
-pub found_finer : (a : Street) (t : BaseRecord) (d : Dir) (signals : List Signal) (links : List Link) → IsOuterWayOf a t d signals links → (best : Option FreeBand)
+pub found_finer : (a : Street) (t : BaseRecord) (d : Dir) (signals : List WaySignal) (links : List WayLink) → IsOuterWayOf a t d signals links → (best : Option FreeBand)
     → MatchOption best (NoneRunsFiner (way (cycle a t) signals links)) (λ f. IsWidestFiner (way (cycle a t) signals links) f.band)
     → MatchOption best (NoneFreeFiner a t d) (λ f. IsWidestFree a t d f.band)
 found_finer a t d signals links h None e = λ m q out ins x b k g. none_on a t d signals links h m q out ins k e x b g

@@ -12,8 +12,8 @@ use Rattle.time_space.specs.LinkRules.{LinkHolds}
 use Rattle.time_space.specs.declared.links.LinkRule.TheVariants as rule
 use Rattle.free_band.specs.Way.{Way, way, IsWay, Runs, NoneRuns, IsWidest, crossing, start_of, red_of, least_of, most_of}
 use Rattle.free_band.specs.Cells.{run_of}
-use Rattle.free_band.specs.declared.way.Signal.{Signal}
-use Rattle.free_band.specs.declared.way.Link.{Link}
+use Rattle.free_band.specs.declared.way.WaySignal.{WaySignal}
+use Rattle.free_band.specs.declared.way.WayLink.{WayLink}
 use Rattle.free_band.specs.declared.way.FreeBand.{FreeBand}
 use Rattle.free_runs.specs.Free.{with_runs, KeepsSpeeds, NoneFree, IsFree}
 use Rattle.free_runs.specs.Street.{IsWayOf}
@@ -37,7 +37,7 @@ module _ (d : Dir) (n i : ℕ) (one : 1 ≤ i) (last : i < n) where
   unfolding place_of
   leg_of_place = elim d as (λ e. leg e n (place_of e n i) ≡ i) [ Outbound ↦ omega arith | Inbound ↦ omega arith ]
 
-module _ (a : Street) (t : BaseRecord) (d : Dir) (signals : List Signal) (links : List Link) (h : IsWayOf a t d signals links) where
+module _ (a : Street) (t : BaseRecord) (d : Dir) (signals : List WaySignal) (links : List WayLink) (h : IsWayOf a t d signals links) where
   abbrev w : Way
   w = way (cycle a t) signals links
 

@@ -9,7 +9,7 @@ ghost use Rattle.time_space.specs.Timing.{IsFor};
 
 use crate::limits::run_limits;
 use artery_model::Artery;
-use free_band::{FreeBand, Link, Signal, is_way, widest_free};
+use free_band::{FreeBand, WayLink, WaySignal, is_way, widest_free};
 use progression::Dir;
 use time_space::{Base, stop};
 
@@ -28,13 +28,13 @@ fn leg(dir: Dir, count: u32, place: u32) -> u32
 }
 
 /// The reds of the signal at a place in travel order.
-fn signal_on(artery: &Artery, base: &Base, dir: Dir, place: u32) -> Signal
+fn signal_on(artery: &Artery, base: &Base, dir: Dir, place: u32) -> WaySignal
     requires on_way { place < count artery.now }
     requires shape { IsFor artery.now base.now }
     ensures { IsStop artery.now base.now dir place result }
 {
     let signal = stop(dir, artery.count(), place);
-    Signal {
+    WaySignal {
         start: base.red_start(artery, dir, signal),
         red: base.red_ticks(artery, dir, signal),
     }
@@ -49,12 +49,12 @@ fn clearance(artery: &Artery, base: &Base, dir: Dir, place: u32) -> u128
 }
 
 /// The limits of the link after a place in travel order, and the clearance after it.
-fn link_on(artery: &Artery, base: &Base, dir: Dir, place: u32) -> Link
+fn link_on(artery: &Artery, base: &Base, dir: Dir, place: u32) -> WayLink
     requires on_way { place + 1 < count artery.now }
     ensures { IsLeg artery.now base.now dir place result }
 {
     let limits = run_limits(artery, base, dir, leg(dir, artery.count(), place));
-    Link {
+    WayLink {
         least: limits.least,
         most: limits.most,
         clear: clearance(artery, base, dir, place),
@@ -62,11 +62,11 @@ fn link_on(artery: &Artery, base: &Base, dir: Dir, place: u32) -> Link
 }
 
 /// The signals in travel order.
-fn signals_on(artery: &Artery, base: &Base, dir: Dir) -> [Signal; 24]
+fn signals_on(artery: &Artery, base: &Base, dir: Dir) -> [WaySignal; 24]
     requires shape { IsFor artery.now base.now }
     ensures { (j : ℕ) → j < count artery.now → IsStop artery.now base.now dir j (signal_of result j) }
 {
-    let mut signals = [Signal { start: 0, red: 2 }; 24];
+    let mut signals = [WaySignal { start: 0, red: 2 }; 24];
     for place in 0..artery.count() {
         signals[place as usize] = signal_on(artery, base, dir, place);
     }
@@ -74,10 +74,10 @@ fn signals_on(artery: &Artery, base: &Base, dir: Dir) -> [Signal; 24]
 }
 
 /// The links in travel order.
-fn links_on(artery: &Artery, base: &Base, dir: Dir) -> [Link; 24]
+fn links_on(artery: &Artery, base: &Base, dir: Dir) -> [WayLink; 24]
     ensures { (j : ℕ) → j + 1 < count artery.now → IsLeg artery.now base.now dir j (link_of result j) }
 {
-    let none = Link {
+    let none = WayLink {
         least: 0,
         most: 0,
         clear: 0,
@@ -94,8 +94,8 @@ fn band_on(
     artery: &Artery,
     base: &Base,
     dir: Dir,
-    signals: &[Signal],
-    links: &[Link],
+    signals: &[WaySignal],
+    links: &[WayLink],
 ) -> Option<FreeBand>
     requires { IsWayOf artery.now base.now dir signals.now links.now }
     ensures widest { MatchOption result (NoneFree artery.now base.now dir) (λ f. IsFree artery.now base.now dir f) }

@@ -1,5 +1,5 @@
 pub mod HalfPlan
-pub mod Rooms
+pub mod LineWidths
 pub mod Lists
 pub mod Made
 pub mod Twice

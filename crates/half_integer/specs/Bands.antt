@@ -12,7 +12,7 @@ fullest a t x zero = 0
 fullest a t x (suc k) = max (fullest a t x k) (taken a t x (suc k))
 
 -- a band that runs on this line, and the widest one
-pub record IsRoom (a : Street) (t : TimingRecord) (first : ℤ) (band : ℕ) : Type 0 where
+pub record IsWidthOn (a : Street) (t : TimingRecord) (first : ℤ) (band : ℕ) : Type 0 where
   pub runs : Runs a t first band
   pub most : (other : ℕ) → Runs a t first other → other ≤ band
 

@@ -1,6 +1,6 @@
 //! The timing of the best band.
 
-ghost use Rattle.std.specs.Prelude.{◌≡◌, ◌+◌, ◌*◌, ◌<◌, ◌≤◌, ◌^◌, ◌++◌, [], ◌∷◌, pos, All, length, IfOk, OnOk, MatchOption, unsigned_abs, ◌+ℤ◌};
+ghost use Rattle.std.specs.Prelude.{◌≡◌, ◌+◌, ◌*◌, ◌<◌, ◌≤◌, ◌^◌, pos, All, length, IfOk, OnOk, MatchOption, unsigned_abs, ◌+ℤ◌};
 ghost use Rattle.progression.specs.{Street.{count, HasSignal}, BaseRecord.{cycle}, Green.{ahead, red_ticks}, TimingRecord.{base}};
 ghost use Rattle.progression.specs.declared.parts.Dir.TheVariants.{Outbound};
 ghost use Rattle.artery_model.specs.Bounds.{most_signals};
@@ -12,10 +12,10 @@ ghost use Rattle.time_space.specs.Timing.{IsFor};
 
 use crate::search::{OutboundBand, best_band, line_beyond, next_line, wait_in_phase};
 use artery_model::Artery;
-use narrow_fraction::Memory;
+use narrow_fraction::{Memory, copied, push};
 use progression::Dir;
 use std::alloc::Global;
-use time_space::{Base, Timing, copied, cycle, red_start, red_ticks, since_start};
+use time_space::{Base, Timing, cycle, red_start, red_ticks, since_start};
 
 /// How many ticks the outbound red of a signal begins before the common red.
 fn ahead(artery: &Artery, timing: &Timing, signal: u32) -> i128
@@ -69,14 +69,6 @@ fn red_tick(artery: &Artery, timing: &Timing, first: i128, line: i128, signal: u
     let red = red_ticks(artery, timing, Dir::Outbound, signal);
     let tick = centred_tick(artery, timing, line, signal);
     since_start(half + half, red as i128, tick)
-}
-
-/// One more item.
-fn push(items: &mut Vec<u128>, item: u128) -> Result<(), Memory>
-    ensures { OnOk result (items.new.items ≡ items.old.items ++ item ∷ []) }
-{
-    items.push(item)?;
-    Ok(())
 }
 
 /// One more red.

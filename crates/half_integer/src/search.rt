@@ -6,7 +6,7 @@ ghost use Rattle.progression.specs.declared.parts.Dir.TheVariants.{Outbound};
 ghost use Rattle.artery_model.specs.Bounds.{most_signals};
 ghost use Rattle.time_space.specs.Sizes.{IsWithin};
 ghost use Rattle.mirror_theory.specs.{EqualBands.{travel}, Runs.{phase_wait, far, wait_in_phase, taken, Runs, candidate}};
-ghost use Rattle.half_integer.specs.Bands.{fullest, IsRoom, reach, IsTried, IsTriedTo, IsRun, IsBandWithin, IsBestBand};
+ghost use Rattle.half_integer.specs.Bands.{fullest, IsWidthOn, reach, IsTried, IsTriedTo, IsRun, IsBandWithin, IsBestBand};
 ghost use Rattle.time_space.specs.Timing.{IsFor};
 
 use artery_model::Artery;
@@ -123,10 +123,10 @@ fn fullest(artery: &Artery, timing: &Timing, first: i128) -> u128
 }
 
 /// The widest band that begins on a line.
-fn room(artery: &Artery, timing: &Timing, first: i128) -> Option<u128>
+fn width_on(artery: &Artery, timing: &Timing, first: i128) -> Option<u128>
     requires shape { IsFor artery.now (base timing.now) }
     requires near { unsigned_abs first ≤ 2 ^ 99 }
-    ensures { MatchOption result ((band : ℕ) → ¬ Runs artery.now timing.now first band) (λ b. IsRoom artery.now timing.now first b) }
+    ensures { MatchOption result ((band : ℕ) → ¬ Runs artery.now timing.now first band) (λ b. IsWidthOn artery.now timing.now first b) }
 {
     let half = cycle(artery, timing);
     let most = fullest(artery, timing, first);
@@ -154,7 +154,7 @@ fn better(
     ensures tried { IsTried artery.now timing.now result first }
     ensures within { IsBandWithin result }
 {
-    let Some(width) = room(artery, timing, first) else {
+    let Some(width) = width_on(artery, timing, first) else {
         return best;
     };
     match best {
@@ -214,7 +214,7 @@ fn tried_next(
 }
 
 /// The best band on all candidates.
-#[tactic(auto, using(crate::proofs::Rooms::none_tried))]
+#[tactic(auto, using(crate::proofs::LineWidths::none_tried))]
 fn best_candidate(artery: &Artery, timing: &Timing) -> Option<OutboundBand>
     requires shape { IsFor artery.now (base timing.now) }
     ensures runs { IsRun artery.now timing.now result }

@@ -111,9 +111,9 @@ module _ (a : Street) (t : TimingRecord) (v : IsValid a) (u : 2 ≤ t.unit) (eve
       (red_start a (base s) Outbound i -ℤ (pos (phase_of a t x i) -ℤ pos (red_ticks a (base t) Outbound i))) twice *ℤ pos twice
   red_from i at = cycles_from twice _ _ some (h.reds i at)
 
-  -- the band leaves room at signal i
-  room_at : (i : ℕ) → HasSignal a i → wait_in_phase a t x i (phase_of a t x i) + b ≤ twice - (red_ticks a (base t) Outbound i + red_ticks a (base t) Outbound i)
-  room_at i at = let e = taken_is a t x i in let f = runs i at in omega (arith, e, f)
+  -- the band fits at signal i
+  fits_at : (i : ℕ) → HasSignal a i → wait_in_phase a t x i (phase_of a t x i) + b ≤ twice - (red_ticks a (base t) Outbound i + red_ticks a (base t) Outbound i)
+  fits_at i at = let e = taken_is a t x i in let f = runs i at in omega (arith, e, f)
 
   -- outbound, at signal j + 1
   green_out : (j : ℕ) → j < count a → BandIsGreen (cycle a (base s)) (red_start a (base s) Outbound (j + 1)) (red_ticks a (base s) Outbound (j + 1)) (crossing a s Outbound j) s.band_out
@@ -127,9 +127,9 @@ module _ (a : Street) (t : TimingRecord) (v : IsValid a) (u : 2 ≤ t.unit) (eve
       let w = far_kept j in
       let g : crossing a s Outbound j ≡ (x +ℤ far a t i) +ℤ quot_ℤ (s.first_out -ℤ x) twice *ℤ pos twice = omega (arith, ints, p, c, w) in
       let e = wait_out_is twice r (phase_of a t x i) b (x +ℤ far a t i) (red_start a (base s) Outbound i) (crossing a s Outbound j) (crossing a s Outbound j) _ _ (pos 0) some (red_from i at) g in
-      let room = room_at i at in
+      let fitting = fits_at i at in
       (window_after (cycle a (base s)) (red_ticks a (base s) Outbound i) (red_start a (base s) Outbound i) (crossing a s Outbound j) s.band_out f.0 f.1).1
-      (rw (cycle_twice, red_twice Outbound i at, h.band_out, e) room)
+      (rw (cycle_twice, red_twice Outbound i at, h.band_out, e) fitting)
 
   -- inbound, at signal j + 1
   green_in : (j : ℕ) → j < count a → BandIsGreen (cycle a (base s)) (red_start a (base s) Inbound (j + 1)) (red_ticks a (base s) Inbound (j + 1)) (crossing a s Inbound (count a - (j + 1))) s.band_in
@@ -149,9 +149,9 @@ module _ (a : Street) (t : TimingRecord) (v : IsValid a) (u : 2 ≤ t.unit) (eve
       let z : way a (base s) Outbound (count a - 1) ≡ far a t (count a) = far_kept (count a - 1) ∙ ap (far a t) whole in
       let g : q ≡ neg_ℤ (x +ℤ far a t i) -ℤ pos b +ℤ quot_ℤ (s.first_in -ℤ mirrored a t x b) twice *ℤ pos twice = omega (arith, ints, p, here, back, ends, w, z) in
       let e = wait_in_is twice r (phase_of a t x i) b (x +ℤ far a t i) (red_start a (base s) Outbound i) q q _ (pos 0) _ some (red_from i at) g (phase_half a t x i) in
-      let room = room_at i at in
+      let fitting = fits_at i at in
       (window_before (cycle a (base s)) (red_ticks a (base s) Inbound i) (red_start a (base s) Inbound i) q s.band_in f.0 f.1).1
-      (rw (start_same Inbound i at, cycle_twice, red_twice Inbound i at, h.band_in, e) room)
+      (rw (start_same Inbound i at, cycle_twice, red_twice Inbound i at, h.band_in, e) fitting)
 
   pub built_bands : HasEqualGreenBands a t 2 s
   built_bands = record {

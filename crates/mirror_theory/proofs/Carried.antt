@@ -60,7 +60,7 @@ module _ (a : Street) (t : TimingRecord) (v : IsValid a) (u : 2 ≤ t.unit) (eve
       let d2 = +ℤ-*ℤ (way a (base t) Outbound j) (way a (base t) Outbound j) (pos m) in
       rw one (omega (arith, ints, e, f, w, p, d1, d2))
 
-  -- at signal j + 1 one of the phases has room
+  -- at signal j + 1 the band fits one of the phases
   phase_at : (j : ℕ) → j < count a
       → HasPhase (cycle a (base t)) (red_ticks a (base t) Outbound (j + 1)) m (s.band_out + s.band_out) (carried_first +ℤ far a t (j + 1)) 0
       ⊎ HasPhase (cycle a (base t)) (red_ticks a (base t) Outbound (j + 1)) m (s.band_out + s.band_out) (carried_first +ℤ far a t (j + 1)) (cycle a (base t))

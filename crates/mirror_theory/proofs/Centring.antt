@@ -52,9 +52,9 @@ module _ (c r b : ℕ) (s p q : ℤ) (some : 1 ≤ r) (fits : r ≤ c) where
       let n = neg_ℤ-*ℤ (quot_ℤ (q -ℤ (s +ℤ pos r)) c) (pos c) in
       omega (arith, ints, e, f, k, l, n)
 
-  -- and a band of twice the width has room there
-  pub has_room : wait_out + b + r ≤ c → wait_in + b + r ≤ c → centred_wait + b + b + r + r ≤ c + c
-  has_room g h = omega arith
+  -- and a band of twice the width fits there
+  pub fits_centred : wait_out + b + r ≤ c → wait_in + b + r ≤ c → centred_wait + b + b + r + r ≤ c + c
+  fits_centred g h = omega arith
 
 -- The same on a grid that is m times as coarse: c is the coarse cycle, r the coarse length, and the band begins at x.
 -- A band that begins at x * m + part on the fine grid has at x on the coarse one the wait w, rounded down.
@@ -105,11 +105,11 @@ module _ (c r m part b : ℕ) (s p q x : ℤ) (some : 1 ≤ r) (fits : r ≤ c) 
       let w = centred_wait (c * m) (r * m) b s p q long up_to in
       let k = cycles_between (c * m) (r * m) b s p q long up_to in
       let is : p -ℤ q -ℤ pos b ≡ k *ℤ pos (c * m) +ℤ pos (r * m) +ℤ pos w = mirrored_band (c * m) (r * m) b s p q long up_to h in
-      let room : w + b + b + r * m + r * m ≤ c * m + c * m = has_room (c * m) (r * m) b s p q long up_to g h in
+      let fitting : w + b + b + r * m + r * m ≤ c * m + c * m = fits_centred (c * m) (r * m) b s p q long up_to g h in
       let two = halves k in
       let j = two.0 in
       elim two.1 [
-        | inl z ↦ let f = ap (λ y. y *ℤ pos (c * m)) z in inl (at_phase j 0 w (omega (arith, ints, e, is, f)) room)
+        | inl z ↦ let f = ap (λ y. y *ℤ pos (c * m)) z in inl (at_phase j 0 w (omega (arith, ints, e, is, f)) fitting)
         | inr z ↦ let f = ap (λ y. y *ℤ pos (c * m)) z in let d = +ℤ-*ℤ (j +ℤ j) (pos 1) (pos (c * m)) in
-            inr (at_phase j c w (omega (arith, ints, e, is, f, d)) room)
+            inr (at_phase j c w (omega (arith, ints, e, is, f, d)) fitting)
       ]

@@ -59,7 +59,7 @@ greatest n f = extreme n (λ k i. f i ≤ f k) (λ k i. either_le (f i) (f k)) (
 pub least : (n : ℕ) (f : ℕ → ℕ) → Extreme (suc n) (λ k i. f k ≤ f i)
 least n f = extreme n (λ k i. f k ≤ f i) (λ k i. either_le (f k) (f i)) (λ k i j h g. omega (arith, h, g))
 
--- what leaves room for w at each signal runs as wide as the fullest signal allows
+-- what leaves w free at each signal runs as wide as the fullest signal allows
 pub record RunsFrom (a : Street) (t : TimingRecord) (m w : ℕ) : Type 0 where
   pub first : ℤ
   pub band : ℕ

@@ -13,7 +13,7 @@
 //! keeps to itself. `plus`, `minus`, `times` and `over` are exact, and refuse exactly where the operation is past 128 bits, with
 //! the operation and its operands as they were passed: a difference where the sum with the negated operand is, and a sum also where
 //! only its least common denominator is too wide, though it could be reduced further. The order is exact, and multiplies only where
-//! all its numbers are words. No call takes memory.
+//! all its numbers are words. No operation takes memory.
 //!
 //! Sums and differences have short ways for 0, whole numbers, equal denominators and numbers below 2^63, products and quotients for
 //! 0, for a factor 1 or -1 and for numbers below 2^63. Below 2^63 common divisors and all but one of the divisions are made on
@@ -26,6 +26,9 @@
 //! takes 40 bytes. Two calls are short where all is small, and answer None elsewhere: `less_times`, a number less a product of two by
 //! one common divisor, and `ratio_order`, which of two ratios is less by two products.
 //!
+//! `Memory` is want of memory, as the crates above tell it, and besides the numbers stand the two calls by which they all copy a list and put
+//! an item behind one: `copied` and `push`.
+//!
 //! A crate that compares two `Frac`s writes at the head of its `lib.rt`
 //!
 //! `#![tactic(auto, using(rational_theory::proofs::Compare::ne_false, rational_theory::proofs::Compare::eq_true, rational_theory::proofs::Compare::lt_true, rational_theory::proofs::Compare::lt_false, rational_theory::proofs::Compare::le_true, rational_theory::proofs::Compare::le_false))]`
@@ -37,6 +40,7 @@ mod compare;
 mod differences;
 mod divisor;
 mod frac;
+mod lists;
 mod memory;
 mod multiple;
 mod operations;
@@ -51,6 +55,7 @@ mod wide;
 pub use differences::less_product;
 pub use divisor::{word_divisor, word_quotient};
 pub use frac::Frac;
+pub use lists::{copied, push};
 pub use memory::Memory;
 pub use multiple::common_multiple;
 pub use quotient::Quotient;

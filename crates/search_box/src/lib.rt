@@ -16,7 +16,6 @@
 
 mod area;
 mod laws;
-mod lists;
 mod replace;
 mod root;
 mod share;

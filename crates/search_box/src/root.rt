@@ -8,13 +8,12 @@ ghost use Rattle.linear_theory.specs.{Shifts.{shift_count}, Boxes.{root_span, ro
 ghost use Rattle.search_box.specs.{Seen.{span_of, ranks_of}, Sums.{share_of, top_of, bottom_of, run_at, sum_at}};
 
 use crate::area::{RankSpan, SearchBox};
-use crate::lists::push;
 use crate::share::{Share, run_share};
 use crate::shifts::shift_count;
 use crate::span::Span;
 use crate::whole_parts::{End, parts_at};
 use artery_model::Artery;
-use narrow_fraction::Memory;
+use narrow_fraction::{Memory, push};
 use progression::Dir;
 use std::alloc::Global;
 

@@ -6,9 +6,8 @@ ghost use Rattle.linear_theory.specs.Boxes.{IsBoxOf};
 ghost use Rattle.search_box.specs.{Seen.{span_of}, Places.{HasSpan, FitsAt, number_at, IsPlace, low_part, high_part, with_span, AreParts}};
 
 use crate::area::SearchBox;
-use crate::lists::copied;
 use crate::span::{At, Span};
-use narrow_fraction::Memory;
+use narrow_fraction::{Memory, copied};
 use std::alloc::Global;
 
 /// A place's own number.

@@ -6,7 +6,7 @@ ghost use Rattle.second_plan.specs.Nearest.{IsNearest, AnyNumber};
 /// The whole number nearest to `number / by`, of two the lesser.
 pub fn nearest(number: u128, by: u128) -> u128
     requires by { 0 < by }
-    requires room { number < 2 ^ 126 }
+    requires size { number < 2 ^ 126 }
     ensures near { IsNearest AnyNumber number by result }
     ensures most { result ≤ number }
 {

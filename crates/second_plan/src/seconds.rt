@@ -48,7 +48,7 @@ fn least_seconds(limit: Frac) -> u64
 #[tactic(auto, using(crate::proofs::Rounding::nearest_at, crate::proofs::Rounding::nearest_low, crate::proofs::Rounding::nearest_high))]
 fn nearest_within(number: u128, by: u128, least: u64, most: u64) -> u64
     requires by { 0 < by }
-    requires room { number < 2 ^ 126 }
+    requires size { number < 2 ^ 126 }
     requires some { least ≤ most }
     ensures near { IsNearest (λ k. (least ≤ k) × (k ≤ most)) number by result }
 {

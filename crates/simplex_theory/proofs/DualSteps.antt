@@ -7,8 +7,8 @@ use Rattle.rational_theory.proofs.Linear.{linear, product_not_negative, sum_not_
 use Rattle.rational_theory.proofs.Ring.{zero-*ℚ, ring, at, lit, minus, ◌⊕◌, ◌⊗◌}
 use Rattle.rational_theory.proofs.Rows.{+ℚ_cancel}
 use Rattle.simplex_theory.proofs.Signs.{below_or_not, neg_positive, inverse_positive, inverse_neg, negative_nonzero, product_not_positive}
-use Rattle.simplex_theory.proofs.Lines.{turned_at, turned_other, cleared_at, cleared_other}
-use Rattle.simplex_theory.specs.Lines.{turned}
+use Rattle.simplex_theory.proofs.Lines.{divided_at, divided_other, cleared_at, cleared_other}
+use Rattle.simplex_theory.specs.Lines.{divided}
 use Rattle.simplex_theory.specs.Tableau.{Tableau, line, cell, goal_cell, height, width, bound, goal_bound, basic_at, standing_at, IsShaped, IsPlace, exchange}
 use Rattle.simplex_theory.proofs.Tableau.{height-exchange, width-exchange, goal-exchange, basic_same, basic_other, standing_same, standing_other, shaped-exchange, same_or_other}
 use Rattle.simplex_theory.specs.DualSteps.{IsPlaced, IsDual, ratio, IsChoice}
@@ -63,8 +63,8 @@ pub goal_at : (r j : ℕ) (t : Tableau) → IsShaped t → IsPlace t r j → goa
 unfolding ratio
 goal_at r j t s p =
     ap (λ (l : List ℚ). get_or l j (whole (pos 0))) (goal-exchange r j t)
-    ∙ cleared_at j (turned j (line t r)) t.goal (let e = s.goals in let k = p.place in omega arith)
-    ∙ ap (λ u. neg_ℚ (goal_cell t j) *ℚ u) (turned_at j (line t r) (let e = s.lines r p.row in let k = p.place in omega arith))
+    ∙ cleared_at j (divided j (line t r)) t.goal (let e = s.goals in let k = p.place in omega arith)
+    ∙ ap (λ u. neg_ℚ (goal_cell t j) *ℚ u) (divided_at j (line t r) (let e = s.lines r p.row in let k = p.place in omega arith))
     ∙ ring (minus (at 0) ⊗ at 1) (at 0 ⊗ minus (at 1)) (goal_cell t j ∷ inverse_ℚ (cell t r j) ∷ []) refl
     ∙ ap (λ u. goal_cell t j *ℚ u) (sym (inverse_neg (cell t r j) p.pivot))
 
@@ -72,8 +72,8 @@ pub goal_other : (r j k : ℕ) (t : Tableau) → IsPlace t r j → (k ≡ j → 
 unfolding ratio
 goal_other r j k t p n =
     ap (λ (l : List ℚ). get_or l k (whole (pos 0))) (goal-exchange r j t)
-    ∙ cleared_other j k (turned j (line t r)) t.goal n
-    ∙ ap (λ u. goal_cell t k +ℚ neg_ℚ (goal_cell t j) *ℚ u) (turned_other j k (line t r) n)
+    ∙ cleared_other j k (divided j (line t r)) t.goal n
+    ∙ ap (λ u. goal_cell t k +ℚ neg_ℚ (goal_cell t j) *ℚ u) (divided_other j k (line t r) n)
     ∙ ring (at 0 ⊕ minus (at 1) ⊗ (at 2 ⊗ at 3)) (at 0 ⊕ at 1 ⊗ minus (at 2) ⊗ at 3) (goal_cell t k ∷ goal_cell t j ∷ inverse_ℚ (cell t r j) ∷ cell t r k ∷ []) refl
     ∙ ap (λ u. goal_cell t k +ℚ goal_cell t j *ℚ u *ℚ cell t r k) (sym (inverse_neg (cell t r j) p.pivot))
 

@@ -3,8 +3,8 @@ use Rattle.std.proofs.Common.{◌≡◌, ℕ, zero, suc, pos, List, [], ◌∷�
 use Rattle.rational_theory.specs.Rational.{ℚ, whole, neg_ℚ, inverse_ℚ, ◌+ℚ◌, ◌*ℚ◌}
 use Rattle.rational_theory.proofs.Arithmetic.{*ℚ-zero}
 use Rattle.rational_theory.proofs.Ring.{ring, at, lit, minus, ◌⊕◌, ◌⊗◌}
-use Rattle.simplex_theory.proofs.Lines.{turned_other, cleared_other}
-use Rattle.simplex_theory.specs.Lines.{turned}
+use Rattle.simplex_theory.proofs.Lines.{divided_other, cleared_other}
+use Rattle.simplex_theory.specs.Lines.{divided}
 use Rattle.simplex_theory.specs.Tableau.{Tableau, line, cell, height, width, standing_at, exchange, IsPlace}
 use Rattle.simplex_theory.proofs.Tableau.{height-exchange, width-exchange, line-exchange_same, line-exchange_other, standing_other, same_or_other}
 use Rattle.simplex_theory.specs.DualSteps.{IsDual}
@@ -30,16 +30,16 @@ module _ (r j v : ℕ) (t : Tableau) (p : IsPlace t r j) (d : IsIdle t v) where
   elsewhere : d.place ≡ j → ⊥
   elsewhere e = p.pivot (ap (λ k. cell t r k) (sym e) ∙ d.nothing r p.row)
 
-  turned_cell : get_or (turned j (line t r)) d.place (whole (pos 0)) ≡ whole (pos 0)
-  turned_cell = turned_other j d.place (line t r) elsewhere ∙ ap (λ u. inverse_ℚ (cell t r j) *ℚ u) (d.nothing r p.row) ∙ *ℚ-zero _
+  divided_cell : get_or (divided j (line t r)) d.place (whole (pos 0)) ≡ whole (pos 0)
+  divided_cell = divided_other j d.place (line t r) elsewhere ∙ ap (λ u. inverse_ℚ (cell t r j) *ℚ u) (d.nothing r p.row) ∙ *ℚ-zero _
 
   idle_cell : (i : ℕ) → i < height t → (i ≡ r) ⊎ (i ≡ r → ⊥) → cell (exchange r j t) i d.place ≡ whole (pos 0)
   idle_cell i l (inl e) =
-      ap (λ m. cell (exchange r j t) m d.place) e ∙ ap (λ (c : List ℚ). get_or c d.place (whole (pos 0))) (line-exchange_same r j t p.row) ∙ turned_cell
+      ap (λ m. cell (exchange r j t) m d.place) e ∙ ap (λ (c : List ℚ). get_or c d.place (whole (pos 0))) (line-exchange_same r j t p.row) ∙ divided_cell
   idle_cell i l (inr n) =
       ap (λ (c : List ℚ). get_or c d.place (whole (pos 0))) (line-exchange_other r j i t l n)
-      ∙ cleared_other j d.place (turned j (line t r)) (line t i) elsewhere
-      ∙ ap (λ u. cell t i d.place +ℚ neg_ℚ (cell t i j) *ℚ u) turned_cell
+      ∙ cleared_other j d.place (divided j (line t r)) (line t i) elsewhere
+      ∙ ap (λ u. cell t i d.place +ℚ neg_ℚ (cell t i j) *ℚ u) divided_cell
       ∙ ap (λ u. u +ℚ neg_ℚ (cell t i j) *ℚ whole (pos 0)) (d.nothing i l)
       ∙ ring (lit (pos 0) ⊕ minus (at 0) ⊗ lit (pos 0)) (lit (pos 0)) (cell t i j ∷ []) refl
 

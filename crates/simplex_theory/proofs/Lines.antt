@@ -8,7 +8,7 @@ use Rattle.rational_theory.proofs.Order.{*ℚ-inverse}
 use Rattle.rational_theory.specs.Rows.{dot, scale, add}
 use Rattle.rational_theory.proofs.Rows.{dot-scale, dot-add}
 use Rattle.rational_theory.proofs.Ring.{one-*ℚ, zero-+ℚ, ring, at, lit, minus, ◌⊕◌, ◌⊗◌}
-use Rattle.simplex_theory.specs.Lines.{values, turned, cleared}
+use Rattle.simplex_theory.specs.Lines.{values, divided, cleared}
 
 pub dot-set : (c k : List ℚ) (j : ℕ) (v w : ℚ) → j < length c → j < length k
     → dot (set c j v) (set k j w) +ℚ get_or c j (whole (pos 0)) *ℚ get_or k j (whole (pos 0)) ≡ dot c k +ℚ v *ℚ w
@@ -23,10 +23,10 @@ dot-set (a ∷ us) (b ∷ bs) (suc j) v w h l =
     ∙ ring (at 0 ⊕ (at 1 ⊕ at 2)) ((at 0 ⊕ at 1) ⊕ at 2) (a *ℚ b ∷ dot us bs ∷ v *ℚ w ∷ []) refl
 
 -- the exchanged row, solved for the variable that stood at place j
-pub turned_gap : (c k : List ℚ) (j : ℕ) (b : ℚ) → j < length c → j < length k → (get_or c j (whole (pos 0)) ≡ whole (pos 0) → ⊥)
-    → get_or k j (whole (pos 0)) +ℚ dot (turned j c) (set k j b) ≡ inverse_ℚ (get_or c j (whole (pos 0))) *ℚ (b +ℚ dot c k)
-unfolding turned
-turned_gap c k j b h l n =
+pub divided_gap : (c k : List ℚ) (j : ℕ) (b : ℚ) → j < length c → j < length k → (get_or c j (whole (pos 0)) ≡ whole (pos 0) → ⊥)
+    → get_or k j (whole (pos 0)) +ℚ dot (divided j c) (set k j b) ≡ inverse_ℚ (get_or c j (whole (pos 0))) *ℚ (b +ℚ dot c k)
+unfolding divided
+divided_gap c k j b h l n =
     let p = get_or c j (whole (pos 0)) in
     let s = get_or k j (whole (pos 0)) in
     let i = inverse_ℚ p in
@@ -77,9 +77,9 @@ length-add [] (b ∷ bs) h = absurd (omega arith)
 length-add (a ∷ us) [] h = refl
 length-add (a ∷ us) (b ∷ bs) h = ap suc (length-add us bs (omega arith))
 
-pub length-turned : (j : ℕ) (c : List ℚ) → length (turned j c) ≡ length c
-unfolding turned
-length-turned j c = length-scale _ _ ∙ length-set c j (whole (pos 1))
+pub length-divided : (j : ℕ) (c : List ℚ) → length (divided j c) ≡ length c
+unfolding divided
+length-divided j c = length-scale _ _ ∙ length-set c j (whole (pos 1))
 
 pub length-cleared : (j : ℕ) (e d : List ℚ) → length d ≡ length e → length (cleared j e d) ≡ length d
 unfolding cleared
@@ -98,13 +98,13 @@ get_or-add (a ∷ us) [] i = sym (+ℚ-zero _)
 get_or-add (a ∷ us) (b ∷ bs) zero = refl
 get_or-add (a ∷ us) (b ∷ bs) (suc i) = get_or-add us bs i
 
-pub turned_at : (j : ℕ) (c : List ℚ) → j < length c → get_or (turned j c) j (whole (pos 0)) ≡ inverse_ℚ (get_or c j (whole (pos 0)))
-unfolding turned
-turned_at j c h = get_or-scale _ (set c j (whole (pos 1))) j ∙ ap (λ t. inverse_ℚ (get_or c j (whole (pos 0))) *ℚ t) (get_or-set_same c j (whole (pos 1)) (whole (pos 0)) h) ∙ *ℚ-one _
+pub divided_at : (j : ℕ) (c : List ℚ) → j < length c → get_or (divided j c) j (whole (pos 0)) ≡ inverse_ℚ (get_or c j (whole (pos 0)))
+unfolding divided
+divided_at j c h = get_or-scale _ (set c j (whole (pos 1))) j ∙ ap (λ t. inverse_ℚ (get_or c j (whole (pos 0))) *ℚ t) (get_or-set_same c j (whole (pos 1)) (whole (pos 0)) h) ∙ *ℚ-one _
 
-pub turned_other : (j k : ℕ) (c : List ℚ) → (k ≡ j → ⊥) → get_or (turned j c) k (whole (pos 0)) ≡ inverse_ℚ (get_or c j (whole (pos 0))) *ℚ get_or c k (whole (pos 0))
-unfolding turned
-turned_other j k c n = get_or-scale _ (set c j (whole (pos 1))) k ∙ ap (λ t. inverse_ℚ (get_or c j (whole (pos 0))) *ℚ t) (get_or-set_other c j k (whole (pos 1)) (whole (pos 0)) n)
+pub divided_other : (j k : ℕ) (c : List ℚ) → (k ≡ j → ⊥) → get_or (divided j c) k (whole (pos 0)) ≡ inverse_ℚ (get_or c j (whole (pos 0))) *ℚ get_or c k (whole (pos 0))
+unfolding divided
+divided_other j k c n = get_or-scale _ (set c j (whole (pos 1))) k ∙ ap (λ t. inverse_ℚ (get_or c j (whole (pos 0))) *ℚ t) (get_or-set_other c j k (whole (pos 1)) (whole (pos 0)) n)
 
 pub cleared_at : (j : ℕ) (e d : List ℚ) → j < length d → get_or (cleared j e d) j (whole (pos 0)) ≡ neg_ℚ (get_or d j (whole (pos 0))) *ℚ get_or e j (whole (pos 0))
 unfolding cleared

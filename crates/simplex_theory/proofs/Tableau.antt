@@ -7,8 +7,8 @@ use Rattle.rational_theory.proofs.Order.{inverse_not_zero, *ℚ_cancel}
 use Rattle.rational_theory.proofs.Arithmetic.{*ℚ_comm, *ℚ-zero, +ℚ-zero}
 use Rattle.rational_theory.specs.Rows.{dot}
 use Rattle.rational_theory.proofs.Ring.{zero-*ℚ}
-use Rattle.simplex_theory.specs.Lines.{values, turned, cleared}
-use Rattle.simplex_theory.proofs.Lines.{turned_gap, cleared_gap, length-values, values-set, get_or-values, length-turned, length-cleared}
+use Rattle.simplex_theory.specs.Lines.{values, divided, cleared}
+use Rattle.simplex_theory.proofs.Lines.{divided_gap, cleared_gap, length-values, values-set, get_or-values, length-divided, length-cleared}
 use Rattle.simplex_theory.specs.Tableau.{Tableau, line, cell, goal_cell, height, width, basic_at, standing_at, IsShaped, exchange, IsPlace, gap, goal_gap, Meets}
 
 -- ---- what is where after an exchange
@@ -20,15 +20,15 @@ pub width-exchange : (r j : ℕ) (t : Tableau) → width (exchange r j t) ≡ wi
 unfolding exchange
 width-exchange r j t = length-set _ j _
 
-pub line-exchange_same : (r j : ℕ) (t : Tableau) → r < height t → line (exchange r j t) r ≡ turned j (line t r)
+pub line-exchange_same : (r j : ℕ) (t : Tableau) → r < height t → line (exchange r j t) r ≡ divided j (line t r)
 unfolding exchange
-line-exchange_same r j t h = get_or-set_same _ r _ [] (rw (length-map t.rows (cleared j (turned j (line t r)))) h)
+line-exchange_same r j t h = get_or-set_same _ r _ [] (rw (length-map t.rows (cleared j (divided j (line t r)))) h)
 
-pub line-exchange_other : (r j i : ℕ) (t : Tableau) → i < height t → (i ≡ r → ⊥) → line (exchange r j t) i ≡ cleared j (turned j (line t r)) (line t i)
+pub line-exchange_other : (r j i : ℕ) (t : Tableau) → i < height t → (i ≡ r → ⊥) → line (exchange r j t) i ≡ cleared j (divided j (line t r)) (line t i)
 unfolding exchange
 line-exchange_other r j i t h n = get_or-set_other _ r i _ [] n ∙ get_or-map _ t.rows i [] [] h
 
-pub goal-exchange : (r j : ℕ) (t : Tableau) → (exchange r j t).goal ≡ cleared j (turned j (line t r)) t.goal
+pub goal-exchange : (r j : ℕ) (t : Tableau) → (exchange r j t).goal ≡ cleared j (divided j (line t r)) t.goal
 unfolding exchange
 goal-exchange r j t = refl
 
@@ -47,12 +47,12 @@ pub shaped-exchange : (r j : ℕ) (t : Tableau) → IsShaped t → r < height t 
 shaped-exchange r j t s h = record {
   basics = ap length (basic-exchange r j t) ∙ length-set t.basic r (standing_at t j) ∙ s.basics ∙ sym (height-exchange r j t);
   lines = λ i l. pick i (subst (λ n. i < n) (height-exchange r j t) l) (same_or_other i r) ∙ ap suc (sym (width-exchange r j t));
-  goals = ap length (goal-exchange r j t) ∙ length-cleared j _ t.goal (s.goals ∙ sym (length-turned j (line t r) ∙ s.lines r h)) ∙ s.goals ∙ ap suc (sym (width-exchange r j t));
+  goals = ap length (goal-exchange r j t) ∙ length-cleared j _ t.goal (s.goals ∙ sym (length-divided j (line t r) ∙ s.lines r h)) ∙ s.goals ∙ ap suc (sym (width-exchange r j t));
 }
   where
     pick : (i : ℕ) → i < height t → (i ≡ r) ⊎ (i ≡ r → ⊥) → length (line (exchange r j t) i) ≡ suc (width t)
-    pick i l (inl e) = rw e (ap length (line-exchange_same r j t h) ∙ length-turned j (line t r) ∙ s.lines r h)
-    pick i l (inr n) = ap length (line-exchange_other r j i t l n) ∙ length-cleared j _ (line t i) (s.lines i l ∙ sym (length-turned j (line t r) ∙ s.lines r h)) ∙ s.lines i l
+    pick i l (inl e) = rw e (ap length (line-exchange_same r j t h) ∙ length-divided j (line t r) ∙ s.lines r h)
+    pick i l (inr n) = ap length (line-exchange_other r j i t l n) ∙ length-cleared j _ (line t i) (s.lines i l ∙ sym (length-divided j (line t r) ∙ s.lines r h)) ∙ s.lines i l
 
 values_there : (r j : ℕ) (t : Tableau) (x : ℕ → ℚ) (z : ℚ) → j < width t → values x z (exchange r j t).standing ≡ set (values x z t.standing) j (x (basic_at t r))
 values_there r j t x z h = ap (λ s. values x z s) (standing-exchange r j t) ∙ values-set x z t.standing j (basic_at t r) h
@@ -74,8 +74,8 @@ pub gap-exchange_same : (r j : ℕ) (t : Tableau) (x : ℕ → ℚ) (z : ℚ) �
 unfolding gap
 gap-exchange_same r j t x z s p =
     rw (basic_same r j t (rw s.basics p.row), line-exchange_same r j t p.row, values_there r j t x z p.place)
-    (ap (λ u. u +ℚ dot (turned j (line t r)) (set (values x z t.standing) j (x (basic_at t r)))) (sym (get_or-values x z t.standing j p.place))
-    ∙ turned_gap (line t r) (values x z t.standing) j (x (basic_at t r)) (let e = s.lines r p.row in let k = p.place in omega arith) (let e =
+    (ap (λ u. u +ℚ dot (divided j (line t r)) (set (values x z t.standing) j (x (basic_at t r)))) (sym (get_or-values x z t.standing j p.place))
+    ∙ divided_gap (line t r) (values x z t.standing) j (x (basic_at t r)) (let e = s.lines r p.row in let k = p.place in omega arith) (let e =
     length-values x z t.standing in let k = p.place in omega arith) p.pivot)
 
 pub gap-exchange_other : (r j i : ℕ) (t : Tableau) (x : ℕ → ℚ) (z : ℚ) → IsShaped t → IsPlace t r j → i < height t → (i ≡ r → ⊥)
@@ -83,18 +83,18 @@ pub gap-exchange_other : (r j i : ℕ) (t : Tableau) (x : ℕ → ℚ) (z : ℚ)
 unfolding gap
 gap-exchange_other r j i t x z s p l n =
     rw (basic_other r j i t n, basic_same r j t (rw s.basics p.row), line-exchange_same r j t p.row, line-exchange_other r j i t l n, values_there r j t x z p.place)
-    (cleared_gap (line t i) (turned j (line t r)) (values x z t.standing) j (x (basic_at t i)) (x (basic_at t r)) (let e = s.lines i l in let k =
+    (cleared_gap (line t i) (divided j (line t r)) (values x z t.standing) j (x (basic_at t i)) (x (basic_at t r)) (let e = s.lines i l in let k =
     p.place in omega arith) (let e = length-values x z t.standing in let k = p.place in omega arith)
-    ∙ ap (λ u. gap t x z i +ℚ neg_ℚ (cell t i j) *ℚ (u +ℚ dot (turned j (line t r)) (set (values x z t.standing) j (x (basic_at t r))))) (get_or-values x z t.standing j p.place))
+    ∙ ap (λ u. gap t x z i +ℚ neg_ℚ (cell t i j) *ℚ (u +ℚ dot (divided j (line t r)) (set (values x z t.standing) j (x (basic_at t r))))) (get_or-values x z t.standing j p.place))
 
 pub goal_gap-exchange : (r j : ℕ) (t : Tableau) (x : ℕ → ℚ) (z y : ℚ) → IsShaped t → IsPlace t r j
     → goal_gap (exchange r j t) x z y ≡ goal_gap t x z y +ℚ neg_ℚ (goal_cell t j) *ℚ gap (exchange r j t) x z r
 unfolding gap goal_gap
 goal_gap-exchange r j t x z y s p =
     rw (basic_same r j t (rw s.basics p.row), line-exchange_same r j t p.row, goal-exchange r j t, values_there r j t x z p.place)
-    (cleared_gap t.goal (turned j (line t r)) (values x z t.standing) j y (x (basic_at t r)) (let e = s.goals in let k = p.place in omega arith) (let e =
+    (cleared_gap t.goal (divided j (line t r)) (values x z t.standing) j y (x (basic_at t r)) (let e = s.goals in let k = p.place in omega arith) (let e =
     length-values x z t.standing in let k = p.place in omega arith)
-    ∙ ap (λ u. goal_gap t x z y +ℚ neg_ℚ (goal_cell t j) *ℚ (u +ℚ dot (turned j (line t r)) (set (values x z t.standing) j (x (basic_at t r))))) (get_or-values x z t.standing j p.place))
+    ∙ ap (λ u. goal_gap t x z y +ℚ neg_ℚ (goal_cell t j) *ℚ (u +ℚ dot (divided j (line t r)) (set (values x z t.standing) j (x (basic_at t r))))) (get_or-values x z t.standing j p.place))
 
 -- ---- the exchange keeps the assignments, and the goal on them
 no_part : (a b c : ℚ) → c ≡ whole (pos 0) → a +ℚ b *ℚ c ≡ a

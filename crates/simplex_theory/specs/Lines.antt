@@ -11,8 +11,8 @@ values x z [] = neg_ℚ z ∷ []
 values x z (v ∷ vs) = x v ∷ values x z vs
 
 -- the exchanged row: place j belongs to the variable that was basic
-unfoldable pub turned : ℕ → List ℚ → List ℚ
-turned j c = scale (inverse_ℚ (get_or c j (whole (pos 0)))) (set c j (whole (pos 1)))
+unfoldable pub divided : ℕ → List ℚ → List ℚ
+divided j c = scale (inverse_ℚ (get_or c j (whole (pos 0)))) (set c j (whole (pos 1)))
 
 -- another row, without the variable that stood at place j, by the exchanged row e
 unfoldable pub cleared : ℕ → List ℚ → List ℚ → List ℚ

@@ -4,7 +4,7 @@ use Rattle.std.proofs.Common.{◌≡◌, ℕ, suc, pos, List, [], map, length, g
 use Rattle.std.proofs.Math.ListN.{set}
 use Rattle.rational_theory.specs.Rational.{ℚ, whole, ◌+ℚ◌}
 use Rattle.rational_theory.specs.Rows.{dot}
-use Rattle.simplex_theory.specs.Lines.{values, turned, cleared}
+use Rattle.simplex_theory.specs.Lines.{values, divided, cleared}
 
 -- each row has a cell for each place, and the bound last
 pub record Tableau : Type 0 where
@@ -48,8 +48,8 @@ pub record IsShaped (t : Tableau) : Type 0 where
 
 unfoldable pub exchange : ℕ → ℕ → Tableau → Tableau
 exchange r j t = record {
-  rows = set (map (cleared j (turned j (line t r))) t.rows) r (turned j (line t r));
-  goal = cleared j (turned j (line t r)) t.goal;
+  rows = set (map (cleared j (divided j (line t r))) t.rows) r (divided j (line t r));
+  goal = cleared j (divided j (line t r)) t.goal;
   basic = set t.basic r (standing_at t j);
   standing = set t.standing j (basic_at t r);
 }

@@ -16,7 +16,7 @@
 //! - `Tableau`: `Tableau`, `line t i`, `cell t i k` (the bound at `k = width t`), `goal_cell`, `basic_at`, `standing_at`; `exchange r j t`;
 //!   `IsShaped`, `IsPlace t r j`; `Meets t x z`: the assignment `x` of all variables meets each row, the bounds being taken `z` times
 //!   (1 for points, 0 for directions); `goal_gap t x z y`: 0 where the goal row gives the goal value `y`. `Lines`: what an exchange makes
-//!   of a row, `turned j c` of its own and `cleared j e d` of another.
+//!   of a row, `divided j c` of its own and `cleared j e d` of another.
 //! - `DualSteps`: `IsPlaced` (each variable in one row or at one place), `IsDual` (dual feasible), `ratio`, `IsChoice t r j`.
 //! - `BlandRule`: `chosen_row`, `chosen_place`, `move t` (`optimal`, `infeasible r`, `pivoted r j`), `next t`. `StepCounts`: `after t k`,
 //!   `steps_to_end t`, `is_pivot`. `Paths`: `HaveSameBasics`.

@@ -8,8 +8,8 @@ ghost use Rattle.speed_steps.specs.Moved.{link_moved, street_moved, stays, link_
 use crate::limits::{changes, limits_moved, moved};
 use crate::way::Way;
 use artery_model::{Artery, Dir, Link, Units};
-use artery_parts::{artery_of, copied_head, copied_signals, push};
-use narrow_fraction::Memory;
+use artery_parts::{artery_of, copied_head, copied_signals};
+use narrow_fraction::{Memory, push};
 use std::alloc::Global;
 
 fn link_moved(way: Way, units: Units, link: &Link) -> Link

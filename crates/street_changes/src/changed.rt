@@ -8,8 +8,8 @@ ghost use Rattle.street_changes.specs.Changed.{changed_head, changed_signal, cha
 use crate::letting::{let_link, let_signal, let_street};
 use crate::limits::Change;
 use artery_model::{Artery, Flaw, Head, Link, Signal};
-use artery_parts::{copied_head, copied_link, copied_signal, push};
-use narrow_fraction::Memory;
+use artery_parts::{copied_head, copied_link, copied_signal};
+use narrow_fraction::{Memory, push};
 use std::alloc::Global;
 
 fn changed_head(alloc: Global, head: &Head, change: Change) -> Result<Head, Memory>

@@ -1,21 +1,14 @@
 //! The list of the changes of a street.
 
-ghost use Rattle.std.specs.{Prelude.{◌≡◌, ◌+◌, ◌-◌, ◌++◌, ◌∷◌, [], ◌<◌, IfOk, OnOk}, List.{flat_map, range_with_len}};
+ghost use Rattle.std.specs.{Prelude.{◌≡◌, ◌+◌, ◌-◌, ◌++◌, ◌<◌, IfOk, OnOk}, List.{flat_map, range_with_len}};
 ghost use Rattle.progression.specs.Street.{count, signal_of, link_of, HasLink, HasSignal};
 ghost use Rattle.street_changes.specs.declared.limits.Change.TheVariants as Change;
 ghost use Rattle.street_changes.specs.Changes.{where_so, wants_patterns, signal_changes, speed_changes, street_changes, ends, pace_changes, changes};
 
 use crate::limits::{Change, LinkLimit, SignalLimit, StreetLimit};
 use artery_model::{Artery, Head, Link, Pair, Signal};
-use narrow_fraction::{Frac, Memory};
+use narrow_fraction::{Frac, Memory, push};
 use std::alloc::Global;
-
-fn push(changes: &mut Vec<Change>, change: Change) -> Result<(), Memory>
-    ensures { OnOk result (changes.new.items ≡ changes.old.items ++ change ∷ []) }
-{
-    changes.push(change)?;
-    Ok(())
-}
 
 /// Adds the change where it is so.
 fn push_where(changes: &mut Vec<Change>, there: bool, change: Change) -> Result<(), Memory>

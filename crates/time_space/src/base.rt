@@ -5,10 +5,10 @@ ghost use Rattle.progression.specs.BaseRecord.{BaseRecord, IsBaseRecord, pattern
 ghost use Rattle.time_space.specs.Timing.{AreOfBase, base_of};
 ghost use Rattle.artery_model.specs.Bounds.{least_signals, most_signals};
 
-use crate::copying::copied;
 use artery_model::bounds::{LEAST_SIGNALS, MOST_SIGNALS};
+use narrow_fraction::{Memory, copied};
 use progression::Dir;
-use std::alloc::{AllocError, Global};
+use std::alloc::Global;
 use std::marker::Model;
 
 /// The grid, the signals and the runs of a timing, in ticks: what no first line and no band is part of.
@@ -211,7 +211,7 @@ impl Base {
     }
 
     /// The same base again.
-    pub fn copied(&self, alloc: Global) -> Result<Base, AllocError>
+    pub fn copied(&self, alloc: Global) -> Result<Base, Memory>
         ensures { IfOk result (λ copy. copy ≡ self.now) }
     {
         Ok(Base {

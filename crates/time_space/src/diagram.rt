@@ -70,7 +70,7 @@ pub fn advance(artery: &Artery, timing: &Timing, dir: Dir, place: u32) -> i128
 }
 
 /// The tick at which a line crosses the next signal, from the tick at which it crosses this one.
-pub fn next_line(artery: &Artery, base: &Base, dir: Dir, place: u32, line: i128) -> i128
+pub(crate) fn next_line(artery: &Artery, base: &Base, dir: Dir, place: u32, line: i128) -> i128
     requires on_way { place + 1 < count artery.now }
     requires shape { IsFor artery.now base.now }
     requires near { unsigned_abs line ≤ (place + 1) * 2 ^ 93 }

@@ -22,7 +22,6 @@
 #![tactic(auto)]
 
 mod base;
-mod copying;
 mod diagram;
 mod failing;
 mod limits;
@@ -35,8 +34,7 @@ mod timing;
 mod weight;
 
 pub use base::{Base, LIMIT, are_below_limit};
-pub use copying::copied;
-pub use diagram::{advance, cycle, next_line, red_start, red_ticks};
+pub use diagram::{advance, cycle, red_start, red_ticks};
 pub use failing::Failing;
 pub use limits::is_in_ratio;
 pub use reds::{is_early, stop};

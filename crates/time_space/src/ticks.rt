@@ -8,7 +8,7 @@ ghost use Rattle.time_space.specs.{FirstRed.{IsFirstShut, IsFirstRed}, Sizes.{Is
 /// to `cycle - 1`.
 pub fn since_start(cycle: u128, start: i128, tick: i128) -> u128
     requires cycle { 0 < cycle }
-    requires room { cycle < 2 ^ 100 }
+    requires size { cycle < 2 ^ 100 }
     requires start { IsWithin start }
     requires tick { IsWithin tick }
     ensures value { result ≡ since cycle start tick }
@@ -20,7 +20,7 @@ pub fn since_start(cycle: u128, start: i128, tick: i128) -> u128
 /// Whether the tick is green, for reds with this start and length.
 pub fn is_green(cycle: u128, start: i128, red: u128, tick: i128) -> bool
     requires cycle { 0 < cycle }
-    requires room { cycle < 2 ^ 100 }
+    requires size { cycle < 2 ^ 100 }
     requires start { IsWithin start }
     requires tick { IsWithin tick }
     ensures { result ≡ is_green cycle start red tick }
@@ -35,7 +35,7 @@ pub fn is_green(cycle: u128, start: i128, red: u128, tick: i128) -> bool
 fn first_shut(cycle: u128, red: u128, since: u128, band: u128) -> Option<u128>
     requires red { 2 ≤ red }
     requires cycle { red < cycle }
-    requires room { cycle < 2 ^ 100 }
+    requires size { cycle < 2 ^ 100 }
     requires since { since < cycle }
     ensures { MatchOption result ((t : ℕ) → t ≤ band → IsTrue (is_open red ((since + t) % cycle)))
         (λ t. IsFirstShut cycle red since band t) }
@@ -55,7 +55,7 @@ fn first_shut(cycle: u128, red: u128, since: u128, band: u128) -> Option<u128>
 pub fn first_red(cycle: u128, start: i128, red: u128, edge: i128, band: u128) -> Option<u128>
     requires red { 2 ≤ red }
     requires cycle { red < cycle }
-    requires room { cycle < 2 ^ 100 }
+    requires size { cycle < 2 ^ 100 }
     requires start { IsWithin start }
     requires edge { IsWithin edge }
     ensures { MatchOption result (BandIsGreen cycle start red edge band)

@@ -39,7 +39,7 @@ pub fn weighted(ratio: Frac, out: u128, back: u128, cycle: u128) -> Frac
     requires out { out < 2 ^ 92 }
     requires back { back < 2 ^ 92 }
     requires cycle { 0 < cycle }
-    requires room { cycle < 2 ^ 92 }
+    requires size { cycle < 2 ^ 92 }
     ensures value { result ≡ (number out +ℚ ratio *ℚ number back) /ℚ number cycle }
     ensures least { pos 0 ≤ℤ result.num }
     ensures denominator { result.den ≤ 2 ^ 120 }

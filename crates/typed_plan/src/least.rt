@@ -16,7 +16,7 @@ use time_space::{Base, is_early};
 
 /// The ticks of a base in a second, and in a part.
 #[derive(Clone, Copy)]
-struct Scale {
+struct BaseTicks {
     grid: u128,
     unit: u128,
 }
@@ -109,7 +109,7 @@ fn difference(one: i128, other: i128) -> i128
 /// The remainder of a tick by the cycle, from 0 to `cycle - 1`.
 fn in_cycle(cycle: u128, tick: i128) -> u128
     requires cycle { 0 < cycle }
-    requires room { cycle < 2 ^ 100 }
+    requires size { cycle < 2 ^ 100 }
     requires tick { unsigned_abs tick < 2 ^ 120 }
     ensures value { result ≡ mod_ℤ tick cycle }
     ensures below { result < cycle }
@@ -129,7 +129,7 @@ fn cycle(artery: &Artery, unit: u128) -> u128
 }
 
 /// Where the common red of a signal starts, that of signal 1 at 0.
-fn red_tick(artery: &Artery, plan: &TypedPlan, scale: Scale, signal: u32) -> u128
+fn red_tick(artery: &Artery, plan: &TypedPlan, scale: BaseTicks, signal: u32) -> u128
     requires counts { HasCounts artery.now plan.now }
     requires least { AreLeast artery.now plan.now scale.grid scale.unit }
     requires signal { HasSignal artery.now signal }
@@ -144,7 +144,12 @@ fn red_tick(artery: &Artery, plan: &TypedPlan, scale: Scale, signal: u32) -> u12
 }
 
 /// Where the common red of each signal starts.
-fn reds(alloc: Global, artery: &Artery, plan: &TypedPlan, scale: Scale) -> Result<Vec<u128>, Memory>
+fn reds(
+    alloc: Global,
+    artery: &Artery,
+    plan: &TypedPlan,
+    scale: BaseTicks,
+) -> Result<Vec<u128>, Memory>
     requires counts { HasCounts artery.now plan.now }
     requires least { AreLeast artery.now plan.now scale.grid scale.unit }
     ensures value { IfOk result (λ v. v.items ≡ numbered (count artery.now) 1 (red_tick artery.now plan.now)) }
@@ -193,7 +198,7 @@ pub fn least_base(
     plan.known_within();
     let unit = size(artery, plan, grid, Times::Part, 1);
     let patterns = Vec::from_slice(alloc, plan.patterns())?;
-    let scale = Scale { grid, unit };
+    let scale = BaseTicks { grid, unit };
     let reds = reds(alloc, artery, plan, scale)?;
     let run_out = runs(alloc, artery, plan, grid, Dir::Outbound)?;
     let run_in = runs(alloc, artery, plan, grid, Dir::Inbound)?;

@@ -50,7 +50,7 @@ pub struct Measured {
 
 /// The pair of each direction in which a line runs.
 #[derive(Clone, Copy)]
-struct Found {
+struct FoundPairs {
     outbound: Option<Widest>,
     inbound: Option<Widest>,
 }
@@ -92,7 +92,7 @@ fn cut_pairs(artery: &Artery, there: Widest, back: Widest) -> BothPairs
 }
 
 /// What is put of the widest pairs.
-fn put_pairs(artery: &Artery, cycle: u128, found: Found) -> Found
+fn put_pairs(artery: &Artery, cycle: u128, found: FoundPairs) -> FoundPairs
     requires cycle { cycle < 2 ^ 80 }
     requires outbound { IsBelow cycle found.outbound }
     requires inbound { IsBelow cycle found.inbound }
@@ -103,7 +103,7 @@ fn put_pairs(artery: &Artery, cycle: u128, found: Found) -> Found
     match (found.outbound, found.inbound) {
         (Some(there), Some(back)) => {
             let BothPairs { outbound, inbound } = cut_pairs(artery, there, back);
-            Found {
+            FoundPairs {
                 outbound: Some(outbound),
                 inbound: Some(inbound),
             }
@@ -113,7 +113,7 @@ fn put_pairs(artery: &Artery, cycle: u128, found: Found) -> Found
 }
 
 /// The timing of a base with the pairs that are put of the widest ones.
-fn with_pairs(artery: &Artery, on: Base, found: Found) -> Measured
+fn with_pairs(artery: &Artery, on: Base, found: FoundPairs) -> Measured
     requires cycle { cycle artery.now on < 2 ^ 80 }
     requires outbound { IsBelow (cycle artery.now on) found.outbound }
     requires inbound { IsBelow (cycle artery.now on) found.inbound }
@@ -147,7 +147,7 @@ fn timed(alloc: Global, artery: &Artery, plan: &TypedPlan, grid: u128) -> Result
     let on = least_base(alloc, artery, plan, grid)?;
     let outbound = widest_on(artery, &on, Dir::Outbound);
     let inbound = widest_on(artery, &on, Dir::Inbound);
-    Ok(with_pairs(artery, on, Found { outbound, inbound }))
+    Ok(with_pairs(artery, on, FoundPairs { outbound, inbound }))
 }
 
 /// The timing of a plan on an artery.

@@ -6,7 +6,7 @@ ghost use Rattle.free_runs.specs.Free.{with_runs};
 ghost use Rattle.whole_offsets.specs.{Scale.{IsScale}, Offsets.{AreWithin}, Measured.{on_offsets}};
 
 use crate::lines::DirectionBand;
-use crate::scale::Scale;
+use crate::scale::TickScale;
 use artery_model::Artery;
 use band_measure::Bands;
 use narrow_fraction::Memory;
@@ -19,7 +19,7 @@ pub fn on_offsets(
     alloc: Global,
     artery: &Artery,
     base: &Base,
-    scale: Scale,
+    scale: TickScale,
     rounded: &Rounded,
 ) -> Result<Base, Memory>
     requires base { IsBase artery.now base.now }

@@ -8,7 +8,7 @@ ghost use Rattle.whole_offsets.specs.Measured.{IsMeasuredFor, or_nothing, lackin
 
 use crate::bases::{on_offsets, with_found};
 use crate::lines::direction_band;
-use crate::scale::{Scale, limits_pace};
+use crate::scale::{TickScale, limits_pace};
 use crate::score::{Score, judged};
 use artery_model::Artery;
 use band_measure::{Bands, Widest, cut, law_finer_pairs, widest_on};
@@ -28,7 +28,7 @@ pub struct Tried {
 
 /// A plan, and how many directions it has no line in.
 #[derive(Drop)]
-struct Measured {
+struct LinedPlan {
     timing: Timing,
     lineless: u32,
 }
@@ -38,9 +38,9 @@ fn free_plan(
     alloc: Global,
     artery: &Artery,
     base: &Base,
-    scale: Scale,
+    scale: TickScale,
     rounded: &Rounded,
-) -> Result<Measured, Memory>
+) -> Result<LinedPlan, Memory>
     requires free { limits_pace artery.now ≡ false }
     requires base { IsBase artery.now base.now }
     requires scale { IsScale artery.now base.now rounded.now.seconds scale.grid scale.unit }
@@ -58,7 +58,7 @@ fn free_plan(
     let bands = cut(artery, wide);
     let lineless = out.lineless + back.lineless;
     let timing = with_found(alloc, &on, out, back, bands)?;
-    Ok(Measured { timing, lineless })
+    Ok(LinedPlan { timing, lineless })
 }
 
 /// What was found, or a first line and a band of 0.
@@ -88,7 +88,7 @@ fn pace_plan(
     artery: &Artery,
     base: &Base,
     rounded: &Rounded,
-) -> Result<Measured, Memory>
+) -> Result<LinedPlan, Memory>
     requires limited { limits_pace artery.now ≡ true }
     requires base { IsBase artery.now base.now }
     requires fine { too_fine artery.now base.now rounded.now.seconds ≡ None }
@@ -111,7 +111,7 @@ fn pace_plan(
     let bands = cut(artery, wide);
     let lineless = lacking(found_out) + lacking(found_in);
     let timing = on.banded(out.first, bands.outbound, back.first, bands.inbound);
-    Ok(Measured { timing, lineless })
+    Ok(LinedPlan { timing, lineless })
 }
 
 /// The plan of offsets, measured.
@@ -119,9 +119,9 @@ fn plan_of(
     alloc: Global,
     artery: &Artery,
     base: &Base,
-    scale: Scale,
+    scale: TickScale,
     rounded: &Rounded,
-) -> Result<Measured, Memory>
+) -> Result<LinedPlan, Memory>
     requires base { IsBase artery.now base.now }
     requires scale { IsScale artery.now base.now rounded.now.seconds scale.grid scale.unit }
     requires within { AreWithin artery.now rounded.now.seconds rounded.now.offsets.items }
@@ -140,7 +140,7 @@ pub fn try_offsets(
     alloc: Global,
     artery: &Artery,
     base: &Base,
-    scale: Scale,
+    scale: TickScale,
     rounded: Rounded,
 ) -> Result<Tried, Memory>
     requires base { IsBase artery.now base.now }
@@ -150,7 +150,7 @@ pub fn try_offsets(
     ensures plan { IfOk result (λ x. IsTried artery.now base.now rounded.seconds x) }
     ensures offsets { IfOk result (λ x. x.rounded ≡ rounded) }
 {
-    let Measured { timing, lineless } = plan_of(alloc, artery, base, scale, &rounded)?;
+    let LinedPlan { timing, lineless } = plan_of(alloc, artery, base, scale, &rounded)?;
     let score = judged(artery, &timing, lineless);
     Ok(Tried {
         rounded,

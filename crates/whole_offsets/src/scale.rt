@@ -15,7 +15,7 @@ use time_space::{Base, LIMIT};
 
 /// How fine the ticks of a plan are.
 #[derive(Clone, Copy)]
-pub struct Scale {
+pub struct TickScale {
     /// The ticks in a second.
     pub grid: u128,
     /// The ticks in a part.
@@ -165,7 +165,7 @@ fn free_large(artery: &Artery, grid: u128, seconds: u64) -> Option<u128>
 }
 
 /// The scale of a plan with free runs, or the first of its numbers that no timing can hold.
-fn free_scale(artery: &Artery, base: &Base, seconds: u64) -> Result<Scale, u128>
+fn free_scale(artery: &Artery, base: &Base, seconds: u64) -> Result<TickScale, u128>
     requires free { limits_pace artery.now ≡ false }
     requires some { 1 ≤ seconds }
     requires small { seconds ≤ 3600 }
@@ -176,7 +176,7 @@ fn free_scale(artery: &Artery, base: &Base, seconds: u64) -> Result<Scale, u128>
     let grid = u128::from(artery.parts()) * multiple;
     match free_large(artery, grid, seconds) {
         Some(ticks) => Err(ticks),
-        None => Ok(Scale {
+        None => Ok(TickScale {
             grid,
             unit: u128::from(seconds) * multiple,
         }),
@@ -184,7 +184,7 @@ fn free_scale(artery: &Artery, base: &Base, seconds: u64) -> Result<Scale, u128>
 }
 
 /// The scale of a plan whose runs are those of the base, or the first of its numbers that no timing can hold.
-fn pace_scale(artery: &Artery, base: &Base, seconds: u64) -> Result<Scale, u128>
+fn pace_scale(artery: &Artery, base: &Base, seconds: u64) -> Result<TickScale, u128>
     requires limited { limits_pace artery.now ≡ true }
     requires some { 1 ≤ seconds }
     requires small { seconds ≤ 3600 }
@@ -193,7 +193,7 @@ fn pace_scale(artery: &Artery, base: &Base, seconds: u64) -> Result<Scale, u128>
 {
     match too_fine(artery, base, seconds) {
         Some(ticks) => Err(ticks),
-        None => Ok(Scale {
+        None => Ok(TickScale {
             grid: base.grid() * (2 * u128::from(artery.parts())),
             unit: 2 * u128::from(seconds) * base.grid(),
         }),
@@ -201,7 +201,7 @@ fn pace_scale(artery: &Artery, base: &Base, seconds: u64) -> Result<Scale, u128>
 }
 
 /// The scale of a plan, or the first of its numbers that no timing can hold.
-pub fn scale_of(artery: &Artery, base: &Base, seconds: u64) -> Result<Scale, u128>
+pub fn scale_of(artery: &Artery, base: &Base, seconds: u64) -> Result<TickScale, u128>
     requires some { 1 ≤ seconds }
     requires small { seconds ≤ 3600 }
     ensures scale { IfOk result (λ s. IsScale artery.now base.now seconds s.grid s.unit) }

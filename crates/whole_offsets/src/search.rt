@@ -9,7 +9,7 @@ ghost use Rattle.whole_offsets.specs.Tried.{IsTried, IsAfter, IsMade, IsMadeWith
 
 use crate::moves::{Move, Reach, moved, stop_of};
 use crate::plan::{Tried, try_offsets};
-use crate::scale::Scale;
+use crate::scale::TickScale;
 use crate::score::beats;
 use artery_model::Artery;
 use narrow_fraction::Memory;
@@ -43,7 +43,7 @@ fn plan_after(
     alloc: Global,
     artery: &Artery,
     base: &Base,
-    scale: Scale,
+    scale: TickScale,
     there: &Tried,
     given: Move,
 ) -> Result<Tried, Memory>
@@ -65,7 +65,7 @@ fn try_move(
     alloc: Global,
     artery: &Artery,
     base: &Base,
-    scale: Scale,
+    scale: TickScale,
     there: &Tried,
     given: Move,
     best: Option<Tried>,
@@ -87,7 +87,7 @@ fn try_places(
     alloc: Global,
     artery: &Artery,
     base: &Base,
-    scale: Scale,
+    scale: TickScale,
     there: &Tried,
     reach: Reach,
     step: u64,
@@ -123,7 +123,7 @@ fn try_steps(
     alloc: Global,
     artery: &Artery,
     base: &Base,
-    scale: Scale,
+    scale: TickScale,
     there: &Tried,
     reach: Reach,
     best: Option<Tried>,
@@ -157,7 +157,7 @@ fn best_move(
     alloc: Global,
     artery: &Artery,
     base: &Base,
-    scale: Scale,
+    scale: TickScale,
     there: &Tried,
 ) -> Result<Option<Tried>, Memory>
     requires base { IsBase artery.now base.now }
@@ -175,7 +175,7 @@ pub fn settled(
     alloc: Global,
     artery: &Artery,
     base: &Base,
-    scale: Scale,
+    scale: TickScale,
     first: Tried,
 ) -> Result<Tried, Memory>
     requires base { IsBase artery.now base.now }

@@ -8,7 +8,7 @@ ghost use Rattle.whole_offsets.specs.Steady.{IsSteady, IsEndOf, IsSteadyFault, e
 
 use crate::answer::OffsetPlan;
 use crate::plan::{Tried, try_offsets};
-use crate::scale::{Scale, scale_of};
+use crate::scale::{TickScale, scale_of};
 use crate::score::beats;
 use crate::search::settled;
 use artery_model::Artery;
@@ -51,7 +51,7 @@ fn from_nearest(
     alloc: Global,
     artery: &Artery,
     base: &Base,
-    scale: Scale,
+    scale: TickScale,
     seconds: u64,
 ) -> Result<OffsetPlan, Memory>
     requires base { IsBase artery.now base.now }

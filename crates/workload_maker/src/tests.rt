@@ -8,13 +8,13 @@ use std::alloc::Global;
 use std::process::Abort;
 
 /// A signal's name, red, outbound and inbound left turn.
-type Row = (&'static str, u32, u32, u32);
+type WorkRow = (&'static str, u32, u32, u32);
 
-const SEED_0: [Row; 2] = [("S1", 32, 0, 5), ("S2", 46, 10, 10)];
+const SEED_0: [WorkRow; 2] = [("S1", 32, 0, 5), ("S2", 46, 10, 10)];
 
 const LENGTHS_0: [u32; 1] = [300];
 
-const LAST_SEED: [Row; 16] = [
+const LAST_SEED: [WorkRow; 16] = [
     ("S1", 49, 10, 5),
     ("S2", 32, 0, 10),
     ("S3", 36, 10, 5),
@@ -37,7 +37,7 @@ const LAST_LENGTHS: [u32; 15] = [
     320, 240, 230, 360, 280, 270, 390, 290, 580, 200, 220, 420, 360, 520, 600,
 ];
 
-fn is_row(signal: &Signal, row: &Row) -> bool {
+fn is_row(signal: &Signal, row: &WorkRow) -> bool {
     let (name, red, left_out, left_in) = *row;
     signal.name.as_str() == name
         && [signal.red, signal.left_out, signal.left_in] == [red, left_out, left_in]
@@ -45,7 +45,7 @@ fn is_row(signal: &Signal, row: &Row) -> bool {
         && [signal.clear_out, signal.clear_in] == [0, 0]
 }
 
-fn has_signals(artery: &Artery, rows: &[Row]) -> bool {
+fn has_signals(artery: &Artery, rows: &[WorkRow]) -> bool {
     for (signal, row) in artery.signals().iter().zip(rows) {
         if !is_row(signal, row) {
             return false;

@@ -17,7 +17,7 @@ loop-index-preserved g c =
     let s = c.in-Some.ensures.steps in
     let here = subst (λ i. IsShown c.args.incumbent.now c.args.undone i c.in-Some.node c.shown_node.result) s.1 c.shown_node.ensures in
     let k = one_more c.args.incumbent.now c.args.undone c.args.nodes.items c.loop-index.index-iterator.iter.rest.items c.next.new.self.iter.rest.items c.loop-index.index-iterator.count c.in-Some.node
-    c.loop-index.tree.items c.shown_node.result c.push.new.nodes.items c.loop-index.invariant s.0.0 here c.in_ok-push.ensures in
+    c.loop-index.tree.items c.shown_node.result c.push.new.items.items c.loop-index.invariant s.0.0 here c.in_ok-push.ensures in
     rw s.2 k
 
 pub returns : goal.returns

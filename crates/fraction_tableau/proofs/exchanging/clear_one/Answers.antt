@@ -27,7 +27,7 @@ returns-then-is_zero-clause-cleared c =
     sym
     (cond-false (eqb c.args.index c.args.pivot.now.row) c.args.sparse_rows.now _ (ne_eqb c.args.index c.args.pivot.now.row c.if-index-pivot.false)
     ∙ ap (set c.args.sparse_rows.now c.args.index)
-    (sym (zero_row_kept c.args.pivot.now.place c.args.turned.now (get_or c.args.sparse_rows.now c.args.index []) c.requires.width (omega (arith, c.requires.width, c.requires.pivot.place)) z))
+    (sym (zero_row_kept c.args.pivot.now.place c.args.divided.now (get_or c.args.sparse_rows.now c.args.index []) c.requires.width (omega (arith, c.requires.width, c.requires.pivot.place)) z))
     ∙ set-get_or c.args.sparse_rows.now c.args.index [])
 
 pub held-factor-requires : goal.held-factor-requires

@@ -22,7 +22,7 @@ merge-requires-clause-own c =
 pub returns-in-Err-clause-outcome : goal.returns-in-Err-clause-outcome
 returns-in-Err-clause-outcome c =
     let e = c.args.elimination.now in
-    c.refused.ensures.outcome ∙ sym (ap (λ o. attempt o tt) (clear_stopped e.number e.place c.args.turned.now c.args.row.now e.pivot (length c.args.cells.now)
+    c.refused.ensures.outcome ∙ sym (ap (λ o. attempt o tt) (clear_stopped e.number e.place c.args.divided.now c.args.row.now e.pivot (length c.args.cells.now)
     c.in-Err.wide c.requires.width c.in-Err.ensures.refused))
 
 pub returns-in-Err-clause-line : goal.returns-in-Err-clause-line
@@ -33,7 +33,7 @@ pub returns-in-Err-cleared_number-clause-outcome : goal.returns-in-Err-cleared_n
 returns-in-Err-cleared_number-clause-outcome c =
     let w = length c.args.cells.now in
     let d = c.args.row.now in
-    let e = c.args.turned.now in
+    let e = c.args.divided.now in
     let i = c.args.elimination.now.number in
     let factor = c.fraction-factor.result in
     let bx = c.bound.ensures ∙ ap (number_in d) (same_width _ _ _ c.requires.width refl) in
@@ -45,11 +45,11 @@ returns-in-Err-cleared_number-clause-outcome c =
     c.in-Err-cleared_number.wide c.requires.width (omega (arith, c.requires.width, c.requires.place)) (c.fraction-factor.ensures.value ∙ c.requires.factor) bx by c.in-Ok.ensures.passed some))
 
 -- where the cells and the bound are made, the quotient's operation is the only one that may be refused
-ended : (c : In-Ok-cleared_number) → clear_refusal c.args.elimination.now.number c.args.elimination.now.place c.args.turned.now c.args.row.now
+ended : (c : In-Ok-cleared_number) → clear_refusal c.args.elimination.now.number c.args.elimination.now.place c.args.divided.now c.args.row.now
     c.args.elimination.now.pivot ≡ refused Div c.fraction-factor.result c.args.elimination.now.pivot c.args.elimination.now.number c.args.elimination.now.place
 ended c =
     let d = c.args.row.now in
-    let e = c.args.turned.now in
+    let e = c.args.divided.now in
     let i = c.args.elimination.now.number in
     let factor = c.fraction-factor.result in
     let o = attempt_ok _ _ _ c.in-Ok-cleared_number.ensures.outcome in
@@ -60,12 +60,12 @@ ended c =
 
 -- the row that is made
 made : (c : In-Ok-quotient) → (IsSparse (length c.args.cells.now) c.in-Ok.count (take c.in-Ok.count c.merge.new.cells)
-    × (dense_row (length c.args.cells.now) (take c.in-Ok.count c.merge.new.cells) c.in-Ok-cleared_number.bound ≡ cleared c.args.elimination.now.place c.args.turned.now c.args.row.now))
-    × IsNarrow (cleared c.args.elimination.now.place c.args.turned.now c.args.row.now)
+    × (dense_row (length c.args.cells.now) (take c.in-Ok.count c.merge.new.cells) c.in-Ok-cleared_number.bound ≡ cleared c.args.elimination.now.place c.args.divided.now c.args.row.now))
+    × IsNarrow (cleared c.args.elimination.now.place c.args.divided.now c.args.row.now)
 made c =
     let w = length c.args.cells.now in
     let d = c.args.row.now in
-    let e = c.args.turned.now in
+    let e = c.args.divided.now in
     let place = c.args.elimination.now.place in
     let pivot = c.args.elimination.now.pivot in
     let is : c.fraction-factor.result ≡ number_in d place = c.fraction-factor.ensures.value ∙ c.requires.factor in

@@ -9,7 +9,7 @@ use Rattle.fraction_tableau.proofs.joining.join.Goals as goal
 
 pub returns-clause-cells : goal.returns-clause-cells
 returns-clause-cells c =
-    let e = c.args.turned.now in
+    let e = c.args.divided.now in
     let d = c.args.row.now in
     let j = c.args.joining.now in
     let t = c.loop-index.invariant.joined in

@@ -6,6 +6,6 @@ use Rattle.fraction_tableau.proofs.joining.join.Given as goal
 
 abbrev pub invariant-loop-index : goal.invariant-loop-index
 invariant-loop-index l = record {
-  joined : IsJoined (cleared l.joining.place l.turned l.row) l.row l.cells l.done;
-  index : l.index ≡ length (kept_below (number_in l.turned) l.done.below);
+  joined : IsJoined (cleared l.joining.place l.divided l.row) l.row l.cells l.done;
+  index : l.index ≡ length (kept_below (number_in l.divided) l.done.below);
 }

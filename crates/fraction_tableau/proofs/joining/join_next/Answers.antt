@@ -13,10 +13,10 @@ use Rattle.std.proofs.lemmas.Grind.{common_steps}
 use Rattle.fraction_tableau.proofs.joining.join_next.Goals as goal
 use Rattle.fraction_tableau.proofs.joining.join_next.Goals.{After-index-others-index}
 
--- the next cell of the turned row that isn't 0
-next : (c : After-index-others-index) → IsNext (number_in c.args.turned.now) c.args.done.below (length c.args.cells.now) c.index-others-index.result
+-- the next cell of the divided row that isn't 0
+next : (c : After-index-others-index) → IsNext (number_in c.args.divided.now) c.args.done.below (length c.args.cells.now) c.index-others-index.result
 next c =
-    let f = number_in c.args.turned.now in
+    let f = number_in c.args.divided.now in
     let s = c.kept-others.ensures ∙ ap (kept_below f) (same_width _ _ _ c.requires.width c.requires.widths) in
     next_in f c.args.done.below (length c.args.cells.now) c.args.index c.kept-others.result.now c.index-others-index.result s c.index-others-index.is
     c.requires.joined.inside c.requires.index (subst (λ t. c.args.index < length t) (sym s) c.requires.inside)
@@ -54,13 +54,13 @@ joined-cell-requires-clause-own c =
     let f = fits_i64 (numerator c.args.joining.now.row.denominator (number_in c.args.row.now c.index-others-index.result.place)) (omega (arith, o.size, c.requires.row.short)) in
     simp (c.take_numerator-own.ensures.numerator, f, to_z-of_z) o.size
 
-pub joined-cell-requires-clause-turned : goal.joined-cell-requires-clause-turned
-joined-cell-requires-clause-turned c =
+pub joined-cell-requires-clause-divided : goal.joined-cell-requires-clause-divided
+joined-cell-requires-clause-divided c =
     let j = c.args.joining.now in
     let k = c.index-others-index.result in
-    let x = next (goal.at.joined-cell-requires-clause-turned c).After-index-others-index in
+    let x = next (goal.at.joined-cell-requires-clause-divided c).After-index-others-index in
     let y = x.inside in
-    subst (IsOver j.turned.denominator j.turned.most) x.is (c.requires.turned.numbers k.place)
+    subst (IsOver j.divided.denominator j.divided.most) x.is (c.requires.divided.numbers k.place)
 
 pub put-made-requires : goal.put-made-requires
 put-made-requires c =
@@ -76,7 +76,7 @@ overflow_add-result c =
 
 pub returns-clause-joined : goal.returns-clause-joined
 returns-clause-joined c =
-    let e = c.args.turned.now in
+    let e = c.args.divided.now in
     let d = c.args.row.now in
     let j = c.args.joining.now in
     let k = c.index-others-index.result in
@@ -98,7 +98,7 @@ returns-clause-joined c =
 
 pub returns-clause-index : goal.returns-clause-index
 returns-clause-index c =
-    let e = c.args.turned.now in
+    let e = c.args.divided.now in
     let k = c.index-others-index.result in
     let x = next (goal.at.returns-clause-index c).After-index-others-index in
     let y = x.inside in

@@ -13,7 +13,7 @@ less_product-requires c =
     let p = fits_i64 j.part (omega (arith, part_short j i)) in
     let n = simp (to_z-of_z, c.ranges.own) at c.numerator_or_zero.ensures in
     let k = zeroed_fits c.args.is_own c.args.own c.ranges.own in
-    simp (n, z, p, k, c.ranges.turned, to_z-of_z) (joined_bound j c.args.is_own c.args.own c.args.turned i c.requires.own c.requires.turned)
+    simp (n, z, p, k, c.ranges.divided, to_z-of_z) (joined_bound j c.args.is_own c.args.own c.args.divided i c.requires.own c.requires.divided)
 
 pub returns-clause-value : goal.returns-clause-value
 returns-clause-value c =
@@ -23,14 +23,14 @@ returns-clause-value c =
     let p = fits_i64 j.part (omega (arith, part_short j i)) in
     let n = simp (to_z-of_z, c.ranges.own) at c.numerator_or_zero.ensures in
     let k = zeroed_fits c.args.is_own c.args.own c.ranges.own in
-    let e = simp (n, z, p, k, c.ranges.turned, to_z-of_z) at c.less_product.ensures in
-    let s = joined_size j c.args.is_own c.args.own c.args.turned i c.requires.own c.requires.turned in
-    let f = fits_i64 (combined j.rescaling.times j.part (cond c.args.is_own (pos 0) c.args.own) c.args.turned) (omega (arith, s, i.short)) in
+    let e = simp (n, z, p, k, c.ranges.divided, to_z-of_z) at c.less_product.ensures in
+    let s = joined_size j c.args.is_own c.args.own c.args.divided i c.requires.own c.requires.divided in
+    let f = fits_i64 (combined j.rescaling.times j.part (cond c.args.is_own (pos 0) c.args.own) c.args.divided) (omega (arith, s, i.short)) in
     simp (e, f, to_z-of_z) refl
 
 pub returns-clause-size : goal.returns-clause-size
 returns-clause-size c =
     let j = c.args.joining.now in
     let i = c.requires.joining in
-    let s = joined_size j c.args.is_own c.args.own c.args.turned i c.requires.own c.requires.turned in
+    let s = joined_size j c.args.is_own c.args.own c.args.divided i c.requires.own c.requires.divided in
     rw (returns-clause-value c) s

@@ -4,6 +4,6 @@ use Rattle.fraction_tableau.proofs.merging.merge.Given as goal
 
 abbrev pub invariant-loop-index : goal.invariant-loop-index
 invariant-loop-index l = record {
-  merged : IsMerged l.clearing.number l.clearing.own.place l.clearing.own.cell l.turned l.row l.cells l.done;
-  index : l.index ≡ length (kept_below (number_in l.turned) l.done.below);
+  merged : IsMerged l.clearing.number l.clearing.own.place l.clearing.own.cell l.divided l.row l.cells l.done;
+  index : l.index ≡ length (kept_below (number_in l.divided) l.done.below);
 }

@@ -8,10 +8,10 @@ use Rattle.fraction_tableau.proofs.Merges.{quiet_number, merge_passed, merge_fit
 use Rattle.fraction_tableau.proofs.merging.merge_next.Goals as goal
 use Rattle.fraction_tableau.proofs.merging.merge_next.Goals.{After-index-others-index}
 
--- the next cell of the turned row that isn't 0
-next : (c : After-index-others-index) → IsNext (number_in c.args.turned.now) c.args.done.below (length c.args.cells.now) c.index-others-index.result
+-- the next cell of the divided row that isn't 0
+next : (c : After-index-others-index) → IsNext (number_in c.args.divided.now) c.args.done.below (length c.args.cells.now) c.index-others-index.result
 next c =
-    let f = number_in c.args.turned.now in
+    let f = number_in c.args.divided.now in
     let s = c.kept-others.ensures ∙ ap (kept_below f) (same_width _ _ _ c.requires.width c.requires.widths) in
     next_in f c.args.done.below (length c.args.cells.now) c.args.index c.kept-others.result.now c.index-others-index.result s c.index-others-index.is
     c.requires.merged.inside c.requires.index (subst (λ t. c.args.index < length t) (sym s) c.requires.inside)
@@ -35,7 +35,7 @@ take_at-own-requires-clause-place c =
 
 pub returns-in-Err-clause-refused : goal.returns-in-Err-clause-refused
 returns-in-Err-clause-refused c =
-    let e = c.args.turned.now in
+    let e = c.args.divided.now in
     let d = c.args.row.now in
     let k = c.index-others-index.result in
     let x = next (goal.at.returns-in-Err-clause-refused c).After-index-others-index in
@@ -59,7 +59,7 @@ overflow_add-result c =
 
 pub returns-clause-merged : goal.returns-clause-merged
 returns-clause-merged c =
-    let e = c.args.turned.now in
+    let e = c.args.divided.now in
     let d = c.args.row.now in
     let k = c.index-others-index.result in
     let x = next (goal.at.returns-clause-merged c).After-index-others-index in
@@ -81,7 +81,7 @@ returns-clause-merged c =
 
 pub returns-clause-index : goal.returns-clause-index
 returns-clause-index c =
-    let e = c.args.turned.now in
+    let e = c.args.divided.now in
     let k = c.index-others-index.result in
     let x = next (goal.at.returns-clause-index c).After-index-others-index in
     ap (λ n. n + 1) c.requires.index ∙ sym (step_count (number_in e) c.args.done.below (length c.args.cells.now) k x)

@@ -5,7 +5,7 @@ use Rattle.free_band.specs.Way.{way}
 use Rattle.free_band.specs.Rays.{Same, ray}
 use Rattle.free_band.specs.Cells.{NoCell, CellOf, IsCell}
 use Rattle.free_band.specs.declared.way.FreeBand.{FreeBand}
-use Rattle.free_band.proofs.Fronts.{no_room_cell, no_pick_cell, next_is}
+use Rattle.free_band.proofs.Fronts.{no_width_cell, no_pick_cell, next_is}
 use Rattle.free_band.proofs.rows.next_cell.Goals as goal
 
 pub returns-in-None : goal.returns-in-None
@@ -13,7 +13,7 @@ returns-in-None c =
     let fits : FitsSigned w128 c.signal_at-signal.result.start = search rules in
     let e = simp to_z-of_z at c.in-None.ensures in
     let f = rw (c.signal_at-signal.ensures.start, c.signal_at-signal.ensures.red) at e in
-    no_room_cell (way c.args.cycle c.args.signals.now c.args.links.now) c.requires.way.proper (c.args.place + 1) c.args.index c.args.to (omega (arith, c.requires.links, c.requires.on_way))
+    no_width_cell (way c.args.cycle c.args.signals.now c.args.links.now) c.requires.way.proper (c.args.place + 1) c.args.index c.args.to (omega (arith, c.requires.links, c.requires.on_way))
     c.requires.to f
 
 pub returns-in-None-pick_for : goal.returns-in-None-pick_for

@@ -27,7 +27,7 @@ reduced-requires c =
     record {
       above = mul-pos c.denominator-den.ensures.least c.requires.cycle;
       top = simp (to_z_pos, w) w;
-      bottom = omega (arith, cycle_size c.denominator-den.result c.args.cycle c.denominator-den.ensures.most c.requires.room);
+      bottom = omega (arith, cycle_size c.denominator-den.result c.args.cycle c.denominator-den.ensures.most c.requires.size);
     }
 
 -- the quotient of what fits
@@ -45,4 +45,4 @@ pub returns-clause-least : goal.returns-clause-least
 returns-clause-least c = subst (λ (q : ℚ). pos 0 ≤ℤ q.num) (sym (quotient c)) (over_least _ _)
 
 pub returns-clause-denominator : goal.returns-clause-denominator
-returns-clause-denominator c = omega (arith, c.reduced.ensures.den, cycle_size c.denominator-den.result c.args.cycle c.denominator-den.ensures.most c.requires.room)
+returns-clause-denominator c = omega (arith, c.reduced.ensures.den, cycle_size c.denominator-den.result c.args.cycle c.denominator-den.ensures.most c.requires.size)

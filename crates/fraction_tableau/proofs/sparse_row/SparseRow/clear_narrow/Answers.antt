@@ -67,42 +67,42 @@ joined-self-inside-requires-clause-own c =
     let f = fits_i64 (numerator c.in-Some.joining.row.denominator c.row.inside.bound) (omega (arith, o.size, c.in-Some.ensures.row.short)) in
     simp (c.numerator_of-own.ensures, f, to_z-of_z) o.size
 
-pub joined-self-inside-requires-clause-turned : goal.joined-self-inside-requires-clause-turned
-joined-self-inside-requires-clause-turned c =
-    let q = open_row _ _ _ _ _ c.turned.invariant.0 c.turned.view_is in
+pub joined-self-inside-requires-clause-divided : goal.joined-self-inside-requires-clause-divided
+joined-self-inside-requires-clause-divided c =
+    let q = open_row _ _ _ _ _ c.divided.invariant.0 c.divided.view_is in
     let j = c.in-Some.joining in
-    subst (IsOver j.turned.denominator j.turned.most) (sym q.bound) (c.in-Some.ensures.turned.numbers (length c.turned.inside.cells.items))
+    subst (IsOver j.divided.denominator j.divided.most) (sym q.bound) (c.in-Some.ensures.divided.numbers (length c.divided.inside.cells.items))
 
 -- the row that is made
 made : (c : After-joined-self-inside) (items : List Kept) → (length c.args.row.now ≡ length c.self.inside.cells.items + 1)
     × ((c.in-Some.joining.place < length c.self.inside.cells.items) × (factor_of c.in-Some.joining ≡ number_in c.args.row.now c.in-Some.joining.place))
     → length c.join-made.new.cells ≡ length c.self.inside.cells.items → items ≡ c.join-made.new.cells
     → IsSparse (length items) c.join-made.result.made (take c.join-made.result.made items)
-    × (dense_row (length items) (take c.join-made.result.made items) c.joined-self-inside.result ≡ cleared c.in-Some.joining.place c.args.turned.now c.args.row.now)
+    × (dense_row (length items) (take c.join-made.result.made items) c.joined-self-inside.result ≡ cleared c.in-Some.joining.place c.args.divided.now c.args.row.now)
 made c items g len same =
     let j = c.in-Some.joining in
     let d = c.args.row.now in
-    let e = c.args.turned.now in
+    let e = c.args.divided.now in
     let w = length c.self.inside.cells.items in
     let p = open_row _ _ _ _ _ c.row.invariant.0 c.row.view_is in
-    let q = open_row _ _ _ _ _ c.turned.invariant.0 c.turned.view_is in
+    let q = open_row _ _ _ _ _ c.divided.invariant.0 c.divided.view_is in
     let x : c.row.inside.bound ≡ number_in d w = p.bound ∙ ap (number_in d) (let a = p.wide in omega (arith, g.0)) in
-    let y : c.turned.inside.bound ≡ number_in e w = q.bound ∙ ap (number_in e) (let a = q.wide in omega (arith, g.0, c.requires.widths)) in
+    let y : c.divided.inside.bound ≡ number_in e w = q.bound ∙ ap (number_in e) (let a = q.wide in omega (arith, g.0, c.requires.widths)) in
     let high : c.join-made.result.made ≤ w = omega (arith, c.join-made.ensures.count, ap length c.deref_mut.ensures.value) in
     let k = c.join-made.ensures.cells ∙ ap (λ (u : List Kept). kept_below (number_in (cleared j.place e d)) (length u)) c.deref_mut.ensures.value in
     let o : IsOver j.row.denominator j.row.most c.row.inside.bound = subst (IsOver j.row.denominator j.row.most) (sym p.bound) (c.in-Some.ensures.row.numbers (length c.row.inside.cells.items)) in
     let f = fits_i64 (numerator j.row.denominator c.row.inside.bound) (omega (arith, o.size, c.in-Some.ensures.row.short)) in
-    let v = (simp (c.numerator_of-own.ensures, f, to_z-of_z) at c.joined-self-inside.ensures) ∙ ap (λ u. u +ℚ neg_ℚ (factor_of j *ℚ c.turned.inside.bound)) o.same in
-    let b = cleared_last j.place w e d c.joined-self-inside.result (factor_of j) c.row.inside.bound c.turned.inside.bound g.1.0 g.1.1 x y v in
+    let v = (simp (c.numerator_of-own.ensures, f, to_z-of_z) at c.joined-self-inside.ensures) ∙ ap (λ u. u +ℚ neg_ℚ (factor_of j *ℚ c.divided.inside.bound)) o.same in
+    let b = cleared_last j.place w e d c.joined-self-inside.result (factor_of j) c.row.inside.bound c.divided.inside.bound g.1.0 g.1.1 x y v in
     sparse_new (cleared j.place e d) items c.join-made.new.cells w c.join-made.result.made (number_in (cleared j.place e d)) c.joined-self-inside.result
     same len (length-cleared j.place e d (sym c.requires.widths) ∙ g.0) high k (λ _ _. refl) b
 
 -- its numbers stand over the new denominator
-scaled : (c : After-deref_mut) → (k : ℕ) → IsOver c.in-Some.joining.rescaling.to c.in-Some.joining.most (number_in (cleared c.in-Some.joining.place c.args.turned.now c.args.row.now) k)
+scaled : (c : After-deref_mut) → (k : ℕ) → IsOver c.in-Some.joining.rescaling.to c.in-Some.joining.most (number_in (cleared c.in-Some.joining.place c.args.divided.now c.args.row.now) k)
 scaled c =
     let f = c.in-Some.ensures in
     let g = wide c in
-    cleared_scaled c.in-Some.joining c.args.turned.now c.args.row.now f.joining f.row f.turned g.1.1 (omega (arith, g.1.0, g.0))
+    cleared_scaled c.in-Some.joining c.args.divided.now c.args.row.now f.joining f.row f.divided g.1.1 (omega (arith, g.1.0, g.0))
 
 pub invariant_of-self : goal.invariant_of-self
 invariant_of-self c =
@@ -124,14 +124,14 @@ returns-clause-passed c =
     λ _ k pivot z o.
     let j = c.in-Some.joining in
     let f = c.in-Some.ensures in
-    clear_free_own k c.args.place c.args.turned.now c.args.row.now pivot (scaled_small j.turned c.args.turned.now f.turned) (scaled_small j.row c.args.row.now f.row) z o
+    clear_free_own k c.args.place c.args.divided.now c.args.row.now pivot (scaled_small j.divided c.args.divided.now f.divided) (scaled_small j.row c.args.row.now f.row) z o
 
 pub returns-clause-cleared : goal.returns-clause-cleared
 returns-clause-cleared c =
     let at = goal.at.returns-clause-cleared c in
     let len = written at.After-join-made in
     let m = made at.After-joined-self-inside _ (wide at.After-deref_mut) len (with_items_is c.self.inside.cells c.join-made.new.cells (len ∙ sym c.self.inside.cells.ok.0)) in
-    λ _. m.1 ∙ ap (λ a. cleared a c.args.turned.now c.args.row.now) c.in-Some.ensures.place
+    λ _. m.1 ∙ ap (λ a. cleared a c.args.divided.now c.args.row.now) c.in-Some.ensures.place
 
 pub returns-clause-width : goal.returns-clause-width
 returns-clause-width c =

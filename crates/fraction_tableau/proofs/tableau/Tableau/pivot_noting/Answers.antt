@@ -3,7 +3,7 @@ use Rattle.std.proofs.Math.ListN.{set}
 use Rattle.std.specs.Vec.{with_items}
 use Rattle.std.proofs.lemmas.List.{with_items_is, get_or_default}
 use Rattle.rational_theory.specs.Rational.{ℚ}
-use Rattle.simplex_theory.specs.Lines.{turned, cleared}
+use Rattle.simplex_theory.specs.Lines.{divided, cleared}
 use Rattle.simplex_theory.specs.Tableau.{Tableau, exchange, height, width}
 use Rattle.narrow_fraction.specs.Attempt.{attempt}
 use Rattle.fraction_tableau.specs.Refusals.{exchanged_rows, pivot_refusal}
@@ -23,8 +23,8 @@ returns-clause-pivots c =
     let col : c.args.col < width t = subst (λ (u : Tableau). c.args.col < width u) (sym view) c.requires.col in
     let a : (with_items i.sparse_rows c.exchange_cells.new.sparse_rows).items ≡ exchanged_rows c.args.row c.args.col t.rows =
     sparse_rows ∙ c.in_default.ensures.rows ∙ ap (exchanged_rows c.args.row c.args.col) c.deref_mut.ensures.value in
-    let b : c.swap.new.x ≡ cleared c.args.col (turned c.args.col (get_or t.rows c.args.row [])) t.goal =
-    c.swap.ensures.x_after ∙ c.in_default.ensures.goal_row ∙ ap (λ (l : List (List ℚ)). cleared c.args.col (turned c.args.col (get_or l c.args.row [])) t.goal) c.deref_mut.ensures.value in
+    let b : c.swap.new.x ≡ cleared c.args.col (divided c.args.col (get_or t.rows c.args.row [])) t.goal =
+    c.swap.ensures.x_after ∙ c.in_default.ensures.goal_row ∙ ap (λ (l : List (List ℚ)). cleared c.args.col (divided c.args.col (get_or l c.args.row [])) t.goal) c.deref_mut.ensures.value in
     let d : set i.basic.items c.args.row c.index.result.now ≡ set t.basic c.args.row (get_or t.standing c.args.col 0) =
     ap (set i.basic.items c.args.row) (c.index.ensures ∙ get_or_default i.standing.items c.args.col c.index.result.now 0 col) in
     let e : set i.standing.items c.args.col c.index-leaving.result.now ≡ set t.standing c.args.col (get_or t.basic c.args.row 0) =

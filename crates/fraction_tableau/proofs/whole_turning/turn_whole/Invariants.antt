@@ -1,8 +1,0 @@
-use Rattle.std.proofs.Common.{length}
-use Rattle.rational_theory.specs.Rational.{inverse_ℚ}
-use Rattle.fraction_tableau.specs.KeptCells.{number_in}
-use Rattle.fraction_tableau.proofs.Merges.{Turning}
-use Rattle.fraction_tableau.proofs.whole_turning.turn_whole.Given as goal
-
-abbrev pub invariant-loop-index : goal.invariant-loop-index
-invariant-loop-index l = Turning 0 l.turning.place (inverse_ℚ (number_in l.row l.turning.place)) l.row (length l.fn.cells) l.cells l.index l.made
