@@ -8,12 +8,13 @@ ghost use Rattle.certificate_checker.specs.TreeRefusals.{IsFirst};
 ghost use Rattle.certificate_model.specs.Warrants.{node_of, warrant_of, HasTiming, AreTrees};
 
 use crate::claims::{check_claim, limit_of};
-use crate::kind::{ArteryRows, CheckedKind};
+use crate::kind::CheckedKind;
 use crate::leaves::Aim;
 use crate::reject::Reject;
 use crate::walk::check_tree;
 use artery_model::Artery;
 use certificate_model::{CertNode, Certificate, Claim};
+use loop_rows::ArteryRows;
 use narrow_fraction::Frac;
 use std::alloc::Global;
 

@@ -7,8 +7,7 @@ ghost use Rattle.search_box.specs.{Places.{IsPlace, low_part, high_part}, declar
 ghost use Rattle.search_box.proofs.Parts.{parts_boxed};
 ghost use Rattle.certificate_checker.specs.{Checked.{Checked}, Refusals.{one_band}};
 
-use artery_model::Artery;
-use loop_rows::{BoxRows, SumFault, column_count, fill_goal, sum_of};
+use loop_rows::{ArteryRows, SumFault, column_count, fill_goal, sum_of};
 use named_row::{Leaf, Row};
 use narrow_fraction::{Frac, Memory};
 use search_box::SearchBox;
@@ -61,11 +60,6 @@ pub trait CheckedKind {
 }
 
 /// The timings of an artery with one band a direction, and the rows of its boxes.
-#[derive(Drop)]
-pub struct ArteryRows<'a> {
-    pub artery: &'a Artery,
-}
-
 impl<'a> CheckedKind for ArteryRows<'a> {
     type Timing = Timing;
 
@@ -96,7 +90,6 @@ impl<'a> CheckedKind for ArteryRows<'a> {
     }
 
     fn sum(&self, alloc: Global, area: &SearchBox, leaf: &Leaf) -> Result<Row, SumFault> {
-        let artery = self.artery;
-        sum_of(alloc, &BoxRows { artery, area }, leaf)
+        sum_of(alloc, self, area, leaf)
     }
 }

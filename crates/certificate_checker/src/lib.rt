@@ -29,7 +29,7 @@ mod way;
 
 pub use checking::{check, check_parts};
 pub use claims::limit_of;
-pub use kind::{ArteryRows, CheckedKind};
+pub use kind::CheckedKind;
 pub use laws::{law_accepted_or_refused, law_proofs_are_trees};
 pub use leaves::Aim;
 pub use reject::{Reject, TreeReject};

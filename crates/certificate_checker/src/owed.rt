@@ -4,7 +4,7 @@ ghost use Rattle.std.specs.Prelude.{◌≡◌, ◌<◌, [], ◌∷◌, length, d
 ghost use Rattle.search_box.specs.{Seen.{span_of}, Places.{IsPlace, FitsAt, low_part, high_part, span_at, with_span}};
 ghost use Rattle.certificate_checker.specs.Owed.{AreSplits, number_at, first_of, owed_of, waiting};
 
-use crate::way::{Entry, Way};
+use crate::way::{Entry, SplitWay};
 use narrow_fraction::Memory;
 use search_box::{At, SearchBox, Span};
 use std::alloc::Global;
@@ -16,7 +16,7 @@ use std::marker::Model;
 #[derive(Drop)]
 pub struct Owed {
     area: SearchBox,
-    way: Way,
+    way: SplitWay,
     wanted: bool,
 }
 
@@ -75,7 +75,7 @@ fn to_high(area: &mut SearchBox, place: At, former: Span)
 }
 
 /// From a box whose tree was read to the next box that waits, if there is one, and answers whether there is.
-fn next(area: &mut SearchBox, way: &mut Way) -> bool
+fn next(area: &mut SearchBox, way: &mut SplitWay) -> bool
     requires splits { AreSplits area.old way.old }
     ensures next { owed_of result area.new way.new ≡ waiting area.old way.old }
     ensures splits { AreSplits area.new way.new }
@@ -102,7 +102,7 @@ impl Owed {
     {
         Owed {
             area,
-            way: Way::new(alloc),
+            way: SplitWay::new(alloc),
             wanted: true,
         }
     }

@@ -17,11 +17,11 @@ pub struct Entry {
 
 /// The splits on the way down to a box, seen as their list from the innermost on.
 #[derive(Drop)]
-pub struct Way {
+pub struct SplitWay {
     entries: Vec<Entry>,
 }
 
-impl Model for Way {
+impl Model for SplitWay {
     ghost use Rattle.std.specs.Prelude.{List, reverse};
     ghost use Rattle.certificate_checker.specs.declared.way.Entry.{Entry};
 
@@ -30,11 +30,11 @@ impl Model for Way {
     ghost view = { λ w. reverse w.entries.items };
 }
 
-impl Way {
-    pub fn new(alloc: Global) -> Way
+impl SplitWay {
+    pub fn new(alloc: Global) -> SplitWay
         ensures { result ≡ [] }
     {
-        Way {
+        SplitWay {
             entries: Vec::new(alloc),
         }
     }

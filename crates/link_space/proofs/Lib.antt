@@ -9,3 +9,4 @@ pub mod Copies
 pub mod LinkRowTests
 pub mod LinkGoalSheets
 pub mod FilledRows
+pub mod LinkSets

@@ -10,15 +10,15 @@ use Rattle.named_row.specs.Sheets.{Sheet, with_place}
 use Rattle.named_row.specs.declared.names.Place.TheVariants.{Cell}
 use Rattle.loop_rows.specs.Writing.{written_cells, written}
 use Rattle.loop_rows.specs.Meeting.{IsFilledBy}
-use Rattle.link_theory.specs.declared.ends.End.{End}
-use Rattle.link_theory.specs.declared.ends.End.TheVariants.{Here, Next}
+use Rattle.link_theory.specs.declared.ends.LinkEnd.{LinkEnd}
+use Rattle.link_theory.specs.declared.ends.LinkEnd.TheVariants.{Here, Next}
 use Rattle.link_theory.specs.LinkColumns.{link_width}
 use Rattle.link_theory.specs.LinkRows.{LinkForm, near_form, far_form, link_ratio_form, link_goal}
 use Rattle.link_theory.specs.LinkNames.{LinkName, OfLines, NearRow, FarRow, LinkRatioRow}
 use Rattle.link_theory.specs.LinkCounts.{IsGoodLinkPoint}
 
 -- one of the numbers of four families: outbound and inbound, at the link's own signal and at the next
-abbrev pub by_end : Dir → End → ℕ → ℕ
+abbrev pub by_end : Dir → LinkEnd → ℕ → ℕ
 by_end Outbound Here first = first
 by_end Outbound Next first = first + 1
 by_end Inbound Here first = first + 4

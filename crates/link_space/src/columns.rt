@@ -5,7 +5,7 @@ ghost use Rattle.progression.specs.Street.{count, HasLink};
 ghost use Rattle.link_theory.specs.{LinkColumns.{link_width, half_place}, LinkRows.{signal_at}};
 
 use artery_model::{Artery, Dir};
-use link_theory::End;
+use link_theory::LinkEnd;
 
 /// How many columns the rows of links have.
 pub fn link_column_count(artery: &Artery) -> u32
@@ -30,7 +30,7 @@ pub fn half_column(artery: &Artery, dir: Dir, link: u32) -> u32
 }
 
 /// The signal at an end of a link.
-pub fn signal_at(artery: &Artery, end: End, link: u32) -> u32
+pub fn signal_at(artery: &Artery, end: LinkEnd, link: u32) -> u32
     requires link { HasLink artery.now link }
     ensures value { result ≡ signal_at end link }
     ensures least { 1 ≤ result }
@@ -39,7 +39,7 @@ pub fn signal_at(artery: &Artery, end: End, link: u32) -> u32
     let last = artery.count();
     prove!(link < last);
     match end {
-        End::Here => link,
-        End::Next => link + 1,
+        LinkEnd::Here => link,
+        LinkEnd::Next => link + 1,
     }
 }

@@ -1,14 +1,14 @@
 //! The families of rows that links have beside those of the lines: which number each has, where its rows stand, and what they are.
 
-ghost use Rattle.std.specs.Prelude.{◌≡◌, ◌<◌};
 ghost use Rattle.link_theory.specs.LinkNames.{HasLinkRow};
-ghost use Rattle.link_space.specs.{LinkFamilies.{number_of, row_in}, LinkSheets.{by_end, link_sheet}};
+ghost use Rattle.link_space.specs.{LinkFamilies.{number_of, row_in}, LinkSheets.{link_sheet}};
 ghost use Rattle.link_space.specs.laws.LinkSheets.{link_sheet_unspent, link_sheet_met};
 
 use crate::columns::{half_column, signal_at};
+use crate::family_numbers as numbers;
 use crate::problem::LinkBands;
 use artery_model::{Artery, Dir};
-use link_theory::End;
+use link_theory::LinkEnd;
 use loop_rows::{Family, fill_cells, green, wait_column};
 use named_row::Row;
 use narrow_fraction::Frac;
@@ -18,28 +18,11 @@ use search_box::SearchBox;
 #[derive(Clone, Copy)]
 pub enum LinkFamily {
     /// A link's half is at most the wait at an end.
-    NearRow(Dir, End),
+    NearRow(Dir, LinkEnd),
     /// The wait at an end of a link and the half fit into the green there.
-    FarRow(Dir, End),
+    FarRow(Dir, LinkEnd),
     /// The halves of a link keep the ratio.
     LinkRatioRow,
-}
-
-/// One of the numbers of four families, by direction and end.
-fn numbered(dir: Dir, end: End, first: u8) -> u8
-    requires { first < 100 }
-    ensures { result ≡ by_end dir end first }
-{
-    match dir {
-        Dir::Outbound => match end {
-            End::Here => first,
-            End::Next => first + 1,
-        },
-        Dir::Inbound => match end {
-            End::Here => first + 4,
-            End::Next => first + 5,
-        },
-    }
 }
 
 impl Family for LinkFamily {
@@ -53,9 +36,15 @@ impl Family for LinkFamily {
 
     fn number(&self) -> u8 {
         match *self {
-            LinkFamily::NearRow(dir, end) => numbered(dir, end, 22),
-            LinkFamily::FarRow(dir, end) => numbered(dir, end, 24),
-            LinkFamily::LinkRatioRow => 30,
+            LinkFamily::NearRow(Dir::Outbound, LinkEnd::Here) => numbers::NEAR_OUT_HERE,
+            LinkFamily::NearRow(Dir::Outbound, LinkEnd::Next) => numbers::NEAR_OUT_NEXT,
+            LinkFamily::FarRow(Dir::Outbound, LinkEnd::Here) => numbers::FAR_OUT_HERE,
+            LinkFamily::FarRow(Dir::Outbound, LinkEnd::Next) => numbers::FAR_OUT_NEXT,
+            LinkFamily::NearRow(Dir::Inbound, LinkEnd::Here) => numbers::NEAR_IN_HERE,
+            LinkFamily::NearRow(Dir::Inbound, LinkEnd::Next) => numbers::NEAR_IN_NEXT,
+            LinkFamily::FarRow(Dir::Inbound, LinkEnd::Here) => numbers::FAR_IN_HERE,
+            LinkFamily::FarRow(Dir::Inbound, LinkEnd::Next) => numbers::FAR_IN_NEXT,
+            LinkFamily::LinkRatioRow => numbers::LINK_RATIO,
         }
     }
 

@@ -19,6 +19,7 @@
 mod columns;
 mod failing;
 mod families;
+mod family_numbers;
 mod goal;
 mod greens;
 mod problem;
@@ -33,11 +34,11 @@ pub use failing::LinkFailing;
 pub use families::LinkFamily;
 pub use goal::{fill_link_goal, twice};
 pub use problem::LinkBands;
-pub use rows::{fill_link_row, next_link_row};
+pub use rows::{LinkRows, fill_link_row, next_link_row};
 pub use rules::{
     law_finer_link_grids, law_link_fails_rules_out, law_links_as_wide, law_one_first_link,
     link_holds,
 };
-pub use sum::{LinkRows, link_sum};
+pub use sum::link_sum;
 pub use timing::LinkTiming;
 pub use weight::link_value;

@@ -4,36 +4,39 @@ ghost use Rattle.std.specs.Prelude.{◌≡◌, ◌↔◌, ◌-◌, ◌≤◌, �
 ghost use Rattle.progression.specs.Street.{count};
 ghost use Rattle.linear_theory.specs.{Places.{width}, Boxes.{IsBoxOf}, Names.{name_of}};
 ghost use Rattle.loop_rows.specs.Following.{IsNextIn};
-ghost use Rattle.link_theory.specs.{LinkColumns.{link_width}, LinkNames.{OfLines, NamesNoBand, HasLinkRow, link_name_of, last_link_family}};
-ghost use Rattle.link_theory.proofs.LinkFamilies.{link_family_most, link_index_most};
+ghost use Rattle.link_theory.specs.{LinkColumns.{link_width}, LinkNames.{OfLines, NamesNoBand, HasLinkRow, link_name_of}};
 ghost use Rattle.link_space.specs.{LinkFamilies.{number_of, row_in}, LinkSheets.{wide_sheet, link_sheet, IsFilledLinks}};
-ghost use Rattle.link_space.specs.LinkWeights.{rows_of_links};
+ghost use Rattle.link_space.specs.LinkWeights.{rows_of_links, link_set};
 
+use crate::columns::link_column_count;
 use crate::families::LinkFamily;
-use crate::problem::LinkBands;
+use crate::family_numbers as numbers;
+use crate::family_numbers::LAST_LINK_FAMILY;
+use crate::goal::fill_link_goal;
 use artery_model::{Artery, Dir};
-use link_theory::End;
-use loop_rows::{RowTable, column_count, fill_by, fill_row, has_by, has_row, next_in};
+use link_theory::LinkEnd;
+use loop_rows::{
+    RowTable, column_count, family_numbers as lines, fill_by, fill_row, has_by, has_row, next_in,
+};
 use named_row::{Place, Row, RowId};
+use narrow_fraction::Memory;
 use search_box::SearchBox;
-
-/// The greatest number of a family.
-const LAST_LINK_FAMILY: u8 = 30;
+use std::alloc::Global;
 
 /// The family of links of a number, or None where no family of links has it.
 fn link_family_of(number: u8) -> Option<LinkFamily>
     ensures { MatchOption result ((i : ℕ) → link_name_of number i ≡ OfLines (name_of number i)) (λ f. (number_of f ≡ number) × ((i : ℕ) → link_name_of number i ≡ row_in f i)) }
 {
     match number {
-        22 => Some(LinkFamily::NearRow(Dir::Outbound, End::Here)),
-        23 => Some(LinkFamily::NearRow(Dir::Outbound, End::Next)),
-        24 => Some(LinkFamily::FarRow(Dir::Outbound, End::Here)),
-        25 => Some(LinkFamily::FarRow(Dir::Outbound, End::Next)),
-        26 => Some(LinkFamily::NearRow(Dir::Inbound, End::Here)),
-        27 => Some(LinkFamily::NearRow(Dir::Inbound, End::Next)),
-        28 => Some(LinkFamily::FarRow(Dir::Inbound, End::Here)),
-        29 => Some(LinkFamily::FarRow(Dir::Inbound, End::Next)),
-        30 => Some(LinkFamily::LinkRatioRow),
+        numbers::NEAR_OUT_HERE => Some(LinkFamily::NearRow(Dir::Outbound, LinkEnd::Here)),
+        numbers::NEAR_OUT_NEXT => Some(LinkFamily::NearRow(Dir::Outbound, LinkEnd::Next)),
+        numbers::FAR_OUT_HERE => Some(LinkFamily::FarRow(Dir::Outbound, LinkEnd::Here)),
+        numbers::FAR_OUT_NEXT => Some(LinkFamily::FarRow(Dir::Outbound, LinkEnd::Next)),
+        numbers::NEAR_IN_HERE => Some(LinkFamily::NearRow(Dir::Inbound, LinkEnd::Here)),
+        numbers::NEAR_IN_NEXT => Some(LinkFamily::NearRow(Dir::Inbound, LinkEnd::Next)),
+        numbers::FAR_IN_HERE => Some(LinkFamily::FarRow(Dir::Inbound, LinkEnd::Here)),
+        numbers::FAR_IN_NEXT => Some(LinkFamily::FarRow(Dir::Inbound, LinkEnd::Next)),
+        numbers::LINK_RATIO => Some(LinkFamily::LinkRatioRow),
         _ => None,
     }
 }
@@ -44,7 +47,20 @@ fn is_of_lines(number: u8) -> bool
 {
     matches!(
         number,
-        3 | 4 | 5 | 6 | 7 | 8 | 9 | 10 | 11 | 12 | 14 | 15 | 16 | 17
+        lines::FAST_OUT
+            | lines::FAST_IN
+            | lines::SLOW_OUT
+            | lines::SLOW_IN
+            | lines::RISE_OUT
+            | lines::RISE_IN
+            | lines::DROP_OUT
+            | lines::DROP_IN
+            | lines::CYCLE_LOW
+            | lines::CYCLE_HIGH
+            | lines::LOOP_LOW
+            | lines::LOOP_HIGH
+            | lines::TURN_LOW
+            | lines::TURN_HIGH
     )
 }
 
@@ -122,22 +138,54 @@ fn has_link_row(artery: &Artery, family: u8, index: u32) -> bool
     }
 }
 
-impl RowTable for LinkBands {
-    ghost exists = { λ table a. rows_of_links a };
+/// The rows of links of an artery, each made with a spare row as wide as the artery's own rows, and the value of links.
+#[derive(Drop)]
+pub struct LinkRows<'a> {
+    pub artery: &'a Artery,
+}
 
-    ghost last = { λ table. last_link_family };
+impl<'a> RowTable for LinkRows<'a> {
+    type Spare = Row;
+
+    ghost rows = { λ table. link_set table.artery.now };
+
+    ghost IsFor = { λ table. IsBoxOf table.artery.now };
+
+    ghost IsSpare = { λ table spare. length spare.coefs ≡ width (count table.artery.now) };
+
+    fn known_rows(&self) {
+        // its contract says that there are few signals
+        self.artery.known_valid();
+    }
+
+    fn columns(&self) -> u32 {
+        link_column_count(self.artery)
+    }
+
+    fn make_spare(&self, alloc: Global) -> Result<Row, Memory> {
+        let spare = Row::zero(alloc, column_count(self.artery))?;
+        Ok(spare)
+    }
 
     fn last_family(&self) -> u8 {
         LAST_LINK_FAMILY
     }
 
-    fn has(&self, artery: &Artery, family: u8, index: u32) -> bool {
-        has_link_row(artery, family, index)
+    fn last_index(&self) -> u32 {
+        self.artery.count()
     }
 
-    ghost family_most = { λ table a family i h. link_family_most a family i h };
+    fn has(&self, row: RowId) -> bool {
+        has_link_row(self.artery, row.family, row.index)
+    }
 
-    ghost index_most = { λ table a family i h. link_index_most a family i h };
+    fn fill(&self, area: &SearchBox, row: RowId, spare: &mut Row, into: &mut Row) -> bool {
+        fill_link_row(self.artery, area, row, spare, into)
+    }
+
+    fn fill_goal(&self, into: &mut Row) {
+        fill_link_goal(self.artery, into);
+    }
 }
 
 /// The artery's least row of links above `after`, by family, then index, or its first row for None. None exactly where there
@@ -145,5 +193,5 @@ impl RowTable for LinkBands {
 pub fn next_link_row(artery: &Artery, after: Option<RowId>) -> Option<RowId>
     ensures { IsNextIn (rows_of_links artery.now) after result }
 {
-    next_in(&LinkBands, artery, after)
+    next_in(&LinkRows { artery }, after)
 }

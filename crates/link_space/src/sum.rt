@@ -3,46 +3,18 @@
 ghost use Rattle.std.specs.Prelude.{◌≡◌, length, map, false, None, IfOk, IfErr, OnOk};
 ghost use Rattle.rational_theory.specs.Rows.{added};
 ghost use Rattle.progression.specs.Street.{count};
-ghost use Rattle.linear_theory.specs.{Places.{width}, Boxes.{IsBoxOf}};
+ghost use Rattle.linear_theory.specs.Boxes.{IsBoxOf};
 ghost use Rattle.named_row.specs.Sheets.{blank, row_of};
 ghost use Rattle.loop_rows.specs.Weights.{total_of, fault_of, IsFirstFault};
 ghost use Rattle.link_theory.specs.{LinkColumns.{link_width}, LinkTrees.{link_sum, AreLinkWeights}};
 ghost use Rattle.link_space.specs.LinkWeights.{link_named, link_rows};
 
-use crate::columns::link_column_count;
-use crate::rows::fill_link_row;
+use crate::rows::LinkRows;
 use artery_model::Artery;
-use loop_rows::{RowSource, SumFault, column_count, sum_of};
-use named_row::{Leaf, Row, RowId};
+use loop_rows::{SumFault, sum_of};
+use named_row::{Leaf, Row};
 use search_box::SearchBox;
 use std::alloc::Global;
-
-/// The rows of links of an artery for a box.
-#[derive(Drop)]
-pub struct LinkRows<'a> {
-    pub artery: &'a Artery,
-    pub area: &'a SearchBox,
-}
-
-impl<'a> RowSource for LinkRows<'a> {
-    ghost rows = { λ source. link_rows source.artery.now source.area.now };
-
-    ghost Ready = { λ source. IsBoxOf source.artery.now source.area.now };
-
-    ghost spare = { λ source. width (count source.artery.now) };
-
-    fn columns(&self) -> u32 {
-        link_column_count(self.artery)
-    }
-
-    fn spare_columns(&self) -> u32 {
-        column_count(self.artery)
-    }
-
-    fn fill(&self, row: RowId, room: &mut Row, into: &mut Row) -> bool {
-        fill_link_row(self.artery, self.area, row, room, into)
-    }
-}
 
 /// The sum of the rows of links of a leaf for a box of an artery.
 ///
@@ -65,5 +37,5 @@ pub fn link_sum(
     ensures width { IfOk result (λ sum. length sum.coefs ≡ link_width (count artery.now)) }
 {
     prove!(2 <= artery.count());
-    sum_of(alloc, &LinkRows { artery, area }, leaf)
+    sum_of(alloc, &LinkRows { artery }, area, leaf)
 }

@@ -23,8 +23,8 @@ use Rattle.linear_theory.proofs.Terms.{one, less_one, zero_term}
 use Rattle.linear_theory.proofs.SparseSums.{line_total}
 use Rattle.linear_theory.proofs.PlacedRows.{narrowed_met, met_placed}
 use Rattle.link_theory.specs.LinkColumns.{link_width, half_place}
-use Rattle.link_theory.specs.declared.ends.End.{End}
-use Rattle.link_theory.specs.declared.ends.End.TheVariants.{Here, Next}
+use Rattle.link_theory.specs.declared.ends.LinkEnd.{LinkEnd}
+use Rattle.link_theory.specs.declared.ends.LinkEnd.TheVariants.{Here, Next}
 use Rattle.link_theory.specs.LinkRows.{signal_at, end_cells}
 use Rattle.link_theory.specs.LinkNames.{OfLines, FarRow, NamesNoBand}
 use Rattle.linear_theory.specs.Counts.{IsStreet}
@@ -39,7 +39,7 @@ use Rattle.link_theory.specs.LinkVertices.{IsLinkVertex}
 module _ (a : Street) (box : Area) (x : List ℚ) (h : IsStreet a) (v : IsLinkVertex a box x) where
   -- ---- the waits
   -- at an end of a link
-  wait_at_end : (d : Dir) (e : End) (i : ℕ) → HasLink a i → value_at (count a) x (WaitOf d (signal_at e i)) ≤ℚ green_part a d (signal_at e i)
+  wait_at_end : (d : Dir) (e : LinkEnd) (i : ℕ) → HasLink a i → value_at (count a) x (WaitOf d (signal_at e i)) ≤ℚ green_part a d (signal_at e i)
   wait_at_end d e i k =
       let far = met_placed (link_width (count a)) (end_cells a d e i (number 1) (number 1)) (green_part a d (signal_at e i)) x (end_rises a d e i (number 1) (number 1) k) (v.rows (FarRow d e i) k) in
       linear (record { count = 1; low = one ⊗ at 0 ⊕ (one ⊗ at 1 ⊕ zero_term); high = at 2 } ∷ record { count = 1; low = zero_term; high = at 1 } ∷ []) 0 (at 0) (at 2)

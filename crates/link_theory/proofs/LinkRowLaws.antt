@@ -28,7 +28,7 @@ use Rattle.link_theory.specs.GoodLinks.{GoodLinks, IsGreenAround}
 use Rattle.linear_theory.specs.Counts.{IsStreet}
 use Rattle.linear_theory.proofs.PlacedRows.{Rises, cells_sum, placed_met, met_placed}
 use Rattle.link_theory.specs.LinkColumns.{link_width, half_place, link_point}
-use Rattle.link_theory.specs.declared.ends.End.{End}
+use Rattle.link_theory.specs.declared.ends.LinkEnd.{LinkEnd}
 use Rattle.link_theory.specs.LinkRows.{signal_at, end_cells, half_cells, link_line, near_form, far_form, link_below_form, link_above_form, link_ratio_form}
 use Rattle.link_theory.proofs.LinkPoints.{line_column_at, half_at}
 use Rattle.link_theory.proofs.LinkTicks.{end_there, some_cycle, around_shares, green_end}
@@ -39,7 +39,7 @@ end_rises_by : (n : ℕ) (d : Dir) (s i : ℕ) (u v : ℚ) → (1 ≤ s) × (s �
 end_rises_by n Outbound s i u v h k = let p = h.0 in let q = h.1 in let l = k.0 in let m = k.1 in (omega arith, omega arith, (omega arith, omega arith, tt))
 end_rises_by n Inbound s i u v h k = let p = h.0 in let q = h.1 in let l = k.0 in let m = k.1 in (omega arith, omega arith, (omega arith, omega arith, tt))
 
-pub end_rises : (a : Street) (d : Dir) (e : End) (i : ℕ) (u v : ℚ) → HasLink a i → Rises (link_width (count a)) 0 (end_cells a d e i u v)
+pub end_rises : (a : Street) (d : Dir) (e : LinkEnd) (i : ℕ) (u v : ℚ) → HasLink a i → Rises (link_width (count a)) 0 (end_cells a d e i u v)
 end_rises a d e i u v k = end_rises_by (count a) d (signal_at e i) i u v (end_there a e i k) k
 
 halves_rise_by : (n i : ℕ) (u v : ℚ) → (1 ≤ i) × (i < n) → Rises (link_width n) 0 ((half_place n Outbound i, u) ∷ (half_place n Inbound i, v) ∷ [])
@@ -50,7 +50,7 @@ halves_rise a i u v k = halves_rise_by (count a) i u v k
 
 module _ (a : Street) (t : LinkRecord) (h : IsStreet a) (p : IsLinkRecord t) (s : length t.patterns ≡ count a) where
   -- ---- an end of a link
-  module _ (d : Dir) (e : End) (i : ℕ) (k : HasLink a i) where
+  module _ (d : Dir) (e : LinkEnd) (i : ℕ) (k : HasLink a i) where
     -- the sum of the end's rows at the point
     end_sum : (u v : ℚ) → cells_sum (link_point a t) (end_cells a d e i u v)
         ≡ u *ℚ share a (lines t) (wait a (lines t) d (signal_at e i)) +ℚ (v *ℚ share a (lines t) (half t d i) +ℚ number 0)
@@ -138,10 +138,10 @@ module _ (a : Street) (t : LinkRecord) (h : IsStreet a) (p : IsLinkRecord t) (s 
 
 -- ---- of good link timings
 module _ (a : Street) (t : LinkRecord) (h : IsStreet a) (g : GoodLinks a t) where
-  pub near_law : (d : Dir) (e : End) (i : ℕ) → HasLink a i → IsMet (link_point a t) (link_line a (near_form a d e i))
+  pub near_law : (d : Dir) (e : LinkEnd) (i : ℕ) → HasLink a i → IsMet (link_point a t) (link_line a (near_form a d e i))
   near_law d e i k = ((end_law a t h g.formed g.base.shape d e i k).0 (green_end a t g d e i k)).0
 
-  pub far_law : (d : Dir) (e : End) (i : ℕ) → HasLink a i → IsMet (link_point a t) (link_line a (far_form a d e i))
+  pub far_law : (d : Dir) (e : LinkEnd) (i : ℕ) → HasLink a i → IsMet (link_point a t) (link_line a (far_form a d e i))
   far_law d e i k = ((end_law a t h g.formed g.base.shape d e i k).0 (green_end a t g d e i k)).1
 
   pub ratio_law : (i : ℕ) → HasLink a i → a.head.ratio ≢ number 1 → IsMet (link_point a t) (link_line a (link_ratio_form a i))

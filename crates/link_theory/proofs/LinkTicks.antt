@@ -16,14 +16,14 @@ use Rattle.linear_theory.proofs.Shares.{cycle_above, ticked, parted}
 use Rattle.linear_theory.proofs.Ranges.{parts_above}
 use Rattle.link_theory.specs.LinkRecord.{LinkRecord, link_base, lines, half}
 use Rattle.link_theory.specs.GoodLinks.{GoodLinks, IsGreenAround}
-use Rattle.link_theory.specs.declared.ends.End.{End}
-use Rattle.link_theory.specs.declared.ends.End.TheVariants.{Here, Next}
+use Rattle.link_theory.specs.declared.ends.LinkEnd.{LinkEnd}
+use Rattle.link_theory.specs.declared.ends.LinkEnd.TheVariants.{Here, Next}
 use Rattle.link_theory.specs.LinkRows.{signal_at}
 use Rattle.linear_theory.proofs.Ranges.{red_less}
 use Rattle.link_theory.proofs.Surroundings.{around}
 
 -- each end is a signal
-pub end_there : (a : Street) (e : End) (i : ℕ) → HasLink a i → HasSignal a (signal_at e i)
+pub end_there : (a : Street) (e : LinkEnd) (i : ℕ) → HasLink a i → HasSignal a (signal_at e i)
 end_there a Here i k = let l = k.0 in let m = k.1 in (omega arith, omega arith)
 end_there a Next i k = let l = k.0 in let m = k.1 in (omega arith, omega arith)
 
@@ -73,6 +73,6 @@ module _ (a : Street) (t : LinkRecord) (h : IsStreet a) (u : 2 ≤ t.unit) where
     )
 
 -- the link's band at both ends
-pub green_end : (a : Street) (t : LinkRecord) → GoodLinks a t → (d : Dir) (e : End) (i : ℕ) → HasLink a i → IsGreenAround a t d (signal_at e i) (half t d i)
+pub green_end : (a : Street) (t : LinkRecord) → GoodLinks a t → (d : Dir) (e : LinkEnd) (i : ℕ) → HasLink a i → IsGreenAround a t d (signal_at e i) (half t d i)
 green_end a t g d Here i k = g.here d i k
 green_end a t g d Next i k = g.there d i k

@@ -21,8 +21,8 @@ use Rattle.link_theory.specs.LinkRecord.{LinkRecord, IsLinkRecord, link_base, li
 use Rattle.link_theory.specs.GoodLinks.{GoodLinks, IsGreenAround}
 use Rattle.link_theory.specs.BestLinks.{link_value}
 use Rattle.link_theory.specs.LinkColumns.{half_place, link_point}
-use Rattle.link_theory.specs.declared.ends.End.{End}
-use Rattle.link_theory.specs.declared.ends.End.TheVariants.{Here, Next}
+use Rattle.link_theory.specs.declared.ends.LinkEnd.{LinkEnd}
+use Rattle.link_theory.specs.declared.ends.LinkEnd.TheVariants.{Here, Next}
 use Rattle.link_theory.specs.LinkRows.{signal_at, link_goal}
 use Rattle.link_theory.specs.LinkNames.{LinkName, NearRow, FarRow, LinkRatioRow, HasLinkRow, link_row}
 use Rattle.linear_theory.specs.Counts.{IsStreet}
@@ -117,7 +117,7 @@ module _ (a : Street) (box : Area) (x : List ℚ) (h : IsStreet a) (v : IsLinkVe
   row_shown n k = subst (λ y. IsMet y (link_row a box n)) (sym point_is) (v.rows n k)
 
   -- ---- the rules
-  green_shown : (d : Dir) (e : End) (i : ℕ) → HasLink a i → IsGreenAround a timing d (signal_at e i) (half timing d i)
+  green_shown : (d : Dir) (e : LinkEnd) (i : ℕ) → HasLink a i → IsGreenAround a timing d (signal_at e i) (half timing d i)
   green_shown d e i k = (end_law a timing h formed base_there.shape d e i k).1 (row_shown (NearRow d e i) k, row_shown (FarRow d e i) k)
 
   pub links_good : GoodLinks a timing

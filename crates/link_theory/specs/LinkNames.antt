@@ -9,14 +9,14 @@ use Rattle.progression.specs.declared.parts.Dir.TheVariants.{Outbound, Inbound}
 use Rattle.linear_theory.specs.Boxes.{Area}
 use Rattle.linear_theory.specs.Rows.{line, widened}
 use Rattle.linear_theory.specs.Names.{Name, WaitRow, FastRow, SlowRow, RiseRow, DropRow, CycleLowRow, CycleHighRow, RatioRow, LoopLowRow, LoopHighRow, TurnLowRow, TurnHighRow, LeastRow, EqualLowRow, EqualHighRow, NoRow, FamilyOf, indexed, last_family, row_among, name_of, HasRow, form_of}
-use Rattle.link_theory.specs.declared.ends.End.{End}
-use Rattle.link_theory.specs.declared.ends.End.TheVariants.{Here, Next}
+use Rattle.link_theory.specs.declared.ends.LinkEnd.{LinkEnd}
+use Rattle.link_theory.specs.declared.ends.LinkEnd.TheVariants.{Here, Next}
 use Rattle.link_theory.specs.LinkRows.{link_line, near_form, far_form, link_ratio_form}
 
 pub data LinkName : Type 0 where
   OfLines : Name → LinkName
-  NearRow : Dir → End → ℕ → LinkName
-  FarRow : Dir → End → ℕ → LinkName
+  NearRow : Dir → LinkEnd → ℕ → LinkName
+  FarRow : Dir → LinkEnd → ℕ → LinkName
   LinkRatioRow : ℕ → LinkName
 
 -- ---- the families by their numbers

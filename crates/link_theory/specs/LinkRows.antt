@@ -12,17 +12,17 @@ use Rattle.progression.specs.declared.parts.Dir.TheVariants.{Outbound, Inbound}
 use Rattle.linear_theory.specs.Places.{place, width}
 use Rattle.linear_theory.specs.Blocks.{green_part}
 use Rattle.linear_theory.specs.Rows.{Cell, placed_row, minus_one}
-use Rattle.link_theory.specs.declared.ends.End.{End}
-use Rattle.link_theory.specs.declared.ends.End.TheVariants.{Here, Next}
+use Rattle.link_theory.specs.declared.ends.LinkEnd.{LinkEnd}
+use Rattle.link_theory.specs.declared.ends.LinkEnd.TheVariants.{Here, Next}
 use Rattle.link_theory.specs.LinkColumns.{link_width, half_place}
 
 -- the signal at an end of link i
-abbrev pub signal_at : End → ℕ → ℕ
+abbrev pub signal_at : LinkEnd → ℕ → ℕ
 signal_at Here i = i
 signal_at Next i = i + 1
 
 -- a number at the wait at an end, and one at the half
-abbrev pub end_cells : Street → Dir → End → ℕ → ℚ → ℚ → List Cell
+abbrev pub end_cells : Street → Dir → LinkEnd → ℕ → ℚ → ℚ → List Cell
 end_cells a d e i at_wait at_half = let n = count a in (place n (WaitOf d (signal_at e i)), at_wait) ∷ (half_place n d i, at_half) ∷ []
 
 -- one at each half of a link
@@ -40,11 +40,11 @@ abbrev pub link_line : Street → LinkForm → maths.Row
 link_line a f = placed_row (link_width (count a)) f.cells f.bound
 
 -- the half is at most the wait at the end
-abbrev pub near_form : Street → Dir → End → ℕ → LinkForm
+abbrev pub near_form : Street → Dir → LinkEnd → ℕ → LinkForm
 near_form a d e i = record { cells = end_cells a d e i minus_one (number 1); bound = number 0 }
 
 -- wait and half fit into the green there
-abbrev pub far_form : Street → Dir → End → ℕ → LinkForm
+abbrev pub far_form : Street → Dir → LinkEnd → ℕ → LinkForm
 far_form a d e i = record { cells = end_cells a d e i (number 1) (number 1); bound = green_part a d (signal_at e i) }
 
 -- the ratio of the link's halves, where it is below 1

@@ -2,7 +2,7 @@
 
 /// An end of a link: link i has one at signal i, and the other at the next signal.
 #[derive(Clone, Copy, PartialEq, Eq)]
-pub enum End {
+pub enum LinkEnd {
     Here,
     Next,
 }

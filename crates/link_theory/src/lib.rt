@@ -1,6 +1,6 @@
 //! Link timings: each link has a band of its own, symmetric about one progression line a direction. Here stands when such a
 //! timing is good and when it is best, the rows that the points of good ones meet, and how a vertex of such rows becomes a link
-//! timing, for contracts and proofs alone. This crate has no code but its laws and the type `End`. All holds of timings of any size.
+//! timing, for contracts and proofs alone. This crate has no code but its laws and the type `LinkEnd`. All holds of timings of any size.
 //!
 //! Begin with `specs/Promises.antt`, which `law_no_link_timing_is_lost` and `law_link_vertices_recover` keep.
 //!
@@ -38,5 +38,5 @@
 mod ends;
 mod laws;
 
-pub use ends::End;
+pub use ends::LinkEnd;
 pub use laws::{law_link_vertices_recover, law_no_link_timing_is_lost, law_worked_links};

@@ -1,6 +1,6 @@
 //! The families of an artery's rows: which number each has, where its rows stand, and what they are.
 
-ghost use Rattle.std.specs.Prelude.{◌≡◌, ◌↔◌, IsTrue, ◌+◌, ◌<◌, length};
+ghost use Rattle.std.specs.Prelude.{◌≡◌, ◌↔◌, IsTrue, length};
 ghost use Rattle.progression.specs.Street.{count, HasLink};
 ghost use Rattle.linear_theory.specs.{Boxes.{IsBoxOf}, Places.{width}, Rows.{places_of, block_entries}, Names.{HasRow, HasChange, form_of}};
 ghost use Rattle.linear_theory.proofs.NamedRows.{row_law};
@@ -12,6 +12,7 @@ use crate::columns::{
     band_column, frequency_column, next_of, run_column, shift_column, wait_column,
 };
 use crate::family::{Family, Progression};
+use crate::family_numbers as numbers;
 use crate::numbers::{green, high_bound, low_bound, one_over, rank_part, reciprocal};
 use artery_model::{Artery, Dir};
 use named_row::Row;
@@ -53,14 +54,13 @@ pub enum ArteryFamily {
     EqualHighRow,
 }
 
-/// The number of a direction's family, where the outbound one has this number and the inbound one the next.
-fn by_dir(dir: Dir, outbound: u8) -> u8
-    requires { outbound < 100 }
-    ensures { result ≡ by_dir dir outbound (outbound + 1) }
+/// The number of a direction's family.
+fn by_dir(dir: Dir, outbound: u8, inbound: u8) -> u8
+    ensures { result ≡ by_dir dir outbound inbound }
 {
     match dir {
         Dir::Outbound => outbound,
-        Dir::Inbound => outbound + 1,
+        Dir::Inbound => inbound,
     }
 }
 
@@ -124,21 +124,21 @@ impl Family for ArteryFamily {
 
     fn number(&self) -> u8 {
         match *self {
-            ArteryFamily::WaitRow(dir) => by_dir(dir, 1),
-            ArteryFamily::FastRow(dir) => by_dir(dir, 3),
-            ArteryFamily::SlowRow(dir) => by_dir(dir, 5),
-            ArteryFamily::RiseRow(dir) => by_dir(dir, 7),
-            ArteryFamily::DropRow(dir) => by_dir(dir, 9),
-            ArteryFamily::CycleLowRow => 11,
-            ArteryFamily::CycleHighRow => 12,
-            ArteryFamily::RatioRow => 13,
-            ArteryFamily::LoopLowRow => 14,
-            ArteryFamily::LoopHighRow => 15,
-            ArteryFamily::TurnLowRow => 16,
-            ArteryFamily::TurnHighRow => 17,
-            ArteryFamily::LeastRow(dir) => by_dir(dir, 18),
-            ArteryFamily::EqualLowRow => 20,
-            ArteryFamily::EqualHighRow => 21,
+            ArteryFamily::WaitRow(dir) => by_dir(dir, numbers::WAIT_OUT, numbers::WAIT_IN),
+            ArteryFamily::FastRow(dir) => by_dir(dir, numbers::FAST_OUT, numbers::FAST_IN),
+            ArteryFamily::SlowRow(dir) => by_dir(dir, numbers::SLOW_OUT, numbers::SLOW_IN),
+            ArteryFamily::RiseRow(dir) => by_dir(dir, numbers::RISE_OUT, numbers::RISE_IN),
+            ArteryFamily::DropRow(dir) => by_dir(dir, numbers::DROP_OUT, numbers::DROP_IN),
+            ArteryFamily::CycleLowRow => numbers::CYCLE_LOW,
+            ArteryFamily::CycleHighRow => numbers::CYCLE_HIGH,
+            ArteryFamily::RatioRow => numbers::RATIO,
+            ArteryFamily::LoopLowRow => numbers::LOOP_LOW,
+            ArteryFamily::LoopHighRow => numbers::LOOP_HIGH,
+            ArteryFamily::TurnLowRow => numbers::TURN_LOW,
+            ArteryFamily::TurnHighRow => numbers::TURN_HIGH,
+            ArteryFamily::LeastRow(dir) => by_dir(dir, numbers::LEAST_OUT, numbers::LEAST_IN),
+            ArteryFamily::EqualLowRow => numbers::EQUAL_LOW,
+            ArteryFamily::EqualHighRow => numbers::EQUAL_HIGH,
         }
     }
 

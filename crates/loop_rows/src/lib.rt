@@ -7,29 +7,30 @@
 //! point meets its rows that counts for its `Problem`; `Progression` is the problem of the timings of one artery. Which rows
 //! there are, and what they say, is defined in `linear_theory` (`specs/Rows.antt`, `specs/Names.antt`); `laws` says over
 //! those definitions alone what they promise. The families are those of `ArteryFamily`, each by one name, here and there; a new one
-//! is a variant with its line in each table of `families.rt` and an arm of `family_of`.
+//! is a variant with its number in `family_numbers`, its line in each table of `families.rt` and an arm of `family_of`.
 //!
-//! For the rows of another linear program: families of another `Problem`, whose rows `fill_cells` makes and `fill_by` asks for; a
-//! `RowTable`, whose rows `next_in` names in their order; a `RowSource`, whose rows `sum_of` adds up. Those of an artery are of
-//! `Progression`, and its source is `BoxRows`.
+//! For the rows of another linear program: families of another `Problem`, whose rows `fill_cells` makes and `fill_by` asks for; and a
+//! `RowTable`, whose rows `next_in` names in their order and `sum_of` adds up. Those of an artery are of `Progression`, and its table
+//! is `ArteryRows`.
 //!
 //! `fill_row` clears the row first and makes it exactly, unspent; it is false, and the row stays as it was, exactly where the
 //! artery has no such row. `block_sum` adds its twelve terms in order or names the first operation past 128 bits, and `leaf_sum`
-//! names the first row that can't be added. In `rows.rt` it is said once which number is which family.
+//! names the first row that can't be added. In `family_numbers` it is said once which number a family has.
 #![tactic(auto)]
 
 mod cells;
 mod columns;
 mod families;
 mod family;
+pub mod family_numbers;
 mod fault;
 mod following;
 pub mod laws;
 mod leaves;
 mod numbers;
 mod rows;
-mod source;
 mod sums;
+mod table;
 
 pub use cells::fill_cells;
 pub use columns::{
@@ -38,9 +39,9 @@ pub use columns::{
 pub use families::ArteryFamily;
 pub use family::{Family, Problem, Progression};
 pub use fault::SumFault;
-pub use following::{RowTable, next_in};
+pub use following::next_in;
 pub use leaves::{leaf_sum, sum_of};
 pub use numbers::green;
-pub use rows::{box_bound, fill_by, fill_goal, fill_row, has_by, has_row, next_row};
-pub use source::{BoxRows, RowSource};
+pub use rows::{ArteryRows, box_bound, fill_by, fill_goal, fill_row, has_by, has_row, next_row};
 pub use sums::block_sum;
+pub use table::RowTable;

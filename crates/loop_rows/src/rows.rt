@@ -4,49 +4,48 @@ ghost use Rattle.std.specs.Prelude.{◌≡◌, ◌↔◌, ℕ, IsTrue, IfSome, M
 ghost use Rattle.progression.specs.Street.{count};
 ghost use Rattle.linear_theory.specs.{Places.{width}, Boxes.{Area, IsBoxOf}, Rows.{goal_form}, Names.{HasRow, NoRow, form_of, name_of}};
 ghost use Rattle.loop_rows.specs.{Families.{number_of, row_in}, Writing.{written}, Meeting.{IsFilled, IsFilledBy}};
-ghost use Rattle.linear_theory.specs.Names.{last_family};
-ghost use Rattle.linear_theory.proofs.Families.{family_most, index_most};
-ghost use Rattle.loop_rows.specs.Following.{rows_of_artery, IsNextRow};
+ghost use Rattle.loop_rows.specs.{Following.{IsNextRow}, RowSets.{artery_set}};
 
 use crate::cells::fill_cells;
-use crate::columns::band_column;
+use crate::columns::{band_column, column_count};
 use crate::families::ArteryFamily;
-use crate::family::{Family, Progression};
-use crate::following::{RowTable, next_in};
+use crate::family::Family;
+use crate::family_numbers as numbers;
+use crate::family_numbers::LAST_FAMILY;
+use crate::following::next_in;
+use crate::table::RowTable;
 use artery_model::{Artery, Dir};
 use named_row::{Row, RowId};
-use narrow_fraction::Frac;
+use narrow_fraction::{Frac, Memory};
 use search_box::SearchBox;
-
-/// The greatest number of a family.
-const LAST_FAMILY: u8 = 21;
+use std::alloc::Global;
 
 /// The family of a number, or None where no family has it.
 fn family_of(number: u8) -> Option<ArteryFamily>
     ensures { MatchOption result ((i : ℕ) → name_of number i ≡ NoRow) (λ f. (number_of f ≡ number) × ((i : ℕ) → name_of number i ≡ row_in f i)) }
 {
     match number {
-        1 => Some(ArteryFamily::WaitRow(Dir::Outbound)),
-        2 => Some(ArteryFamily::WaitRow(Dir::Inbound)),
-        3 => Some(ArteryFamily::FastRow(Dir::Outbound)),
-        4 => Some(ArteryFamily::FastRow(Dir::Inbound)),
-        5 => Some(ArteryFamily::SlowRow(Dir::Outbound)),
-        6 => Some(ArteryFamily::SlowRow(Dir::Inbound)),
-        7 => Some(ArteryFamily::RiseRow(Dir::Outbound)),
-        8 => Some(ArteryFamily::RiseRow(Dir::Inbound)),
-        9 => Some(ArteryFamily::DropRow(Dir::Outbound)),
-        10 => Some(ArteryFamily::DropRow(Dir::Inbound)),
-        11 => Some(ArteryFamily::CycleLowRow),
-        12 => Some(ArteryFamily::CycleHighRow),
-        13 => Some(ArteryFamily::RatioRow),
-        14 => Some(ArteryFamily::LoopLowRow),
-        15 => Some(ArteryFamily::LoopHighRow),
-        16 => Some(ArteryFamily::TurnLowRow),
-        17 => Some(ArteryFamily::TurnHighRow),
-        18 => Some(ArteryFamily::LeastRow(Dir::Outbound)),
-        19 => Some(ArteryFamily::LeastRow(Dir::Inbound)),
-        20 => Some(ArteryFamily::EqualLowRow),
-        21 => Some(ArteryFamily::EqualHighRow),
+        numbers::WAIT_OUT => Some(ArteryFamily::WaitRow(Dir::Outbound)),
+        numbers::WAIT_IN => Some(ArteryFamily::WaitRow(Dir::Inbound)),
+        numbers::FAST_OUT => Some(ArteryFamily::FastRow(Dir::Outbound)),
+        numbers::FAST_IN => Some(ArteryFamily::FastRow(Dir::Inbound)),
+        numbers::SLOW_OUT => Some(ArteryFamily::SlowRow(Dir::Outbound)),
+        numbers::SLOW_IN => Some(ArteryFamily::SlowRow(Dir::Inbound)),
+        numbers::RISE_OUT => Some(ArteryFamily::RiseRow(Dir::Outbound)),
+        numbers::RISE_IN => Some(ArteryFamily::RiseRow(Dir::Inbound)),
+        numbers::DROP_OUT => Some(ArteryFamily::DropRow(Dir::Outbound)),
+        numbers::DROP_IN => Some(ArteryFamily::DropRow(Dir::Inbound)),
+        numbers::CYCLE_LOW => Some(ArteryFamily::CycleLowRow),
+        numbers::CYCLE_HIGH => Some(ArteryFamily::CycleHighRow),
+        numbers::RATIO => Some(ArteryFamily::RatioRow),
+        numbers::LOOP_LOW => Some(ArteryFamily::LoopLowRow),
+        numbers::LOOP_HIGH => Some(ArteryFamily::LoopHighRow),
+        numbers::TURN_LOW => Some(ArteryFamily::TurnLowRow),
+        numbers::TURN_HIGH => Some(ArteryFamily::TurnHighRow),
+        numbers::LEAST_OUT => Some(ArteryFamily::LeastRow(Dir::Outbound)),
+        numbers::LEAST_IN => Some(ArteryFamily::LeastRow(Dir::Inbound)),
+        numbers::EQUAL_LOW => Some(ArteryFamily::EqualLowRow),
+        numbers::EQUAL_HIGH => Some(ArteryFamily::EqualHighRow),
         _ => None,
     }
 }
@@ -102,10 +101,10 @@ pub fn box_bound(artery: &Artery, area: &SearchBox, row: RowId) -> Option<Frac>
     ensures same { result ≡ None → (other : Area) → form_of artery.now other (name_of row.family row.index) ≡ form_of artery.now area.now (name_of row.family row.index) }
 {
     match row.family {
-        14 => Some(ArteryFamily::LoopLowRow.bound(artery, area, row.index)),
-        15 => Some(ArteryFamily::LoopHighRow.bound(artery, area, row.index)),
-        16 => Some(ArteryFamily::TurnLowRow.bound(artery, area, row.index)),
-        17 => Some(ArteryFamily::TurnHighRow.bound(artery, area, row.index)),
+        numbers::LOOP_LOW => Some(ArteryFamily::LoopLowRow.bound(artery, area, row.index)),
+        numbers::LOOP_HIGH => Some(ArteryFamily::LoopHighRow.bound(artery, area, row.index)),
+        numbers::TURN_LOW => Some(ArteryFamily::TurnLowRow.bound(artery, area, row.index)),
+        numbers::TURN_HIGH => Some(ArteryFamily::TurnHighRow.bound(artery, area, row.index)),
         _ => None,
     }
 }
@@ -141,22 +140,53 @@ pub fn has_row(artery: &Artery, family: u8, index: u32) -> bool
     }
 }
 
-impl RowTable for Progression {
-    ghost exists = { λ table a. rows_of_artery a };
+/// The rows of an artery, which are made with nothing else, and its weighted band.
+#[derive(Drop)]
+pub struct ArteryRows<'a> {
+    pub artery: &'a Artery,
+}
 
-    ghost last = { λ table. last_family };
+impl<'a> RowTable for ArteryRows<'a> {
+    type Spare = ();
+
+    ghost rows = { λ table. artery_set table.artery.now };
+
+    ghost IsFor = { λ table. IsBoxOf table.artery.now };
+
+    ghost IsSpare = { λ table spare. Unit {0} };
+
+    fn known_rows(&self) {
+        // its contract says that there are few signals
+        self.artery.known_valid();
+    }
+
+    fn columns(&self) -> u32 {
+        column_count(self.artery)
+    }
+
+    fn make_spare(&self, _alloc: Global) -> Result<(), Memory> {
+        Ok(())
+    }
 
     fn last_family(&self) -> u8 {
         LAST_FAMILY
     }
 
-    fn has(&self, artery: &Artery, family: u8, index: u32) -> bool {
-        has_row(artery, family, index)
+    fn last_index(&self) -> u32 {
+        self.artery.count()
     }
 
-    ghost family_most = { λ table a family i h. family_most a family i h };
+    fn has(&self, row: RowId) -> bool {
+        has_row(self.artery, row.family, row.index)
+    }
 
-    ghost index_most = { λ table a family i h. index_most a family i h };
+    fn fill(&self, area: &SearchBox, row: RowId, _spare: &mut (), into: &mut Row) -> bool {
+        fill_row(self.artery, area, row, into)
+    }
+
+    fn fill_goal(&self, into: &mut Row) {
+        fill_goal(self.artery, into);
+    }
 }
 
 /// The artery's least row above `after`, by family, then index, or its first row for None. None exactly where there is
@@ -164,5 +194,5 @@ impl RowTable for Progression {
 pub fn next_row(artery: &Artery, after: Option<RowId>) -> Option<RowId>
     ensures { IsNextRow artery.now after result }
 {
-    next_in(&Progression, artery, after)
+    next_in(&ArteryRows { artery }, after)
 }

@@ -14,23 +14,23 @@ use narrow_fraction::{Frac, Wide};
 
 /// A term of a sum: added, or taken away.
 #[derive(Clone, Copy)]
-enum Step {
+enum Term {
     Plus(Frac),
     Minus(Frac),
 }
 
 /// The sum after one more term.
-fn put(sum: Frac, step: Step) -> Result<Frac, Wide>
+fn put(sum: Frac, step: Term) -> Result<Frac, Wide>
     ensures { result ≡ attempt (step_wide sum step) (after_step sum step) }
 {
     match step {
-        Step::Plus(term) => sum.plus(term),
-        Step::Minus(term) => sum.minus(term),
+        Term::Plus(term) => sum.plus(term),
+        Term::Minus(term) => sum.minus(term),
     }
 }
 
 /// The sum after several more terms.
-fn put_all(first: Frac, steps: &[Step]) -> Result<Frac, Wide>
+fn put_all(first: Frac, steps: &[Term]) -> Result<Frac, Wide>
     ensures { result ≡ attempt (first_wide first steps.now) (after_steps first steps.now) }
 {
     let mut sum = first;
@@ -77,17 +77,17 @@ pub fn block_sum(artery: &Artery, point: &Point, link: u32) -> Result<Frac, Wide
 {
     let next = next_of(artery, link);
     let steps = [
-        Step::Plus(wait_at(artery, point, Dir::Inbound, link)),
-        Step::Minus(wait_at(artery, point, Dir::Outbound, next)),
-        Step::Minus(wait_at(artery, point, Dir::Inbound, next)),
-        Step::Plus(run_at(artery, point, Dir::Outbound, link)),
-        Step::Plus(run_at(artery, point, Dir::Inbound, link)),
-        Step::Plus(shift_of(artery, point, link)),
-        Step::Minus(shift_of(artery, point, next)),
-        Step::Plus(part(artery, artery.common_red(link))),
-        Step::Minus(part(artery, artery.common_red(next))),
-        Step::Minus(part(artery, artery.clearance(Dir::Outbound, next))),
-        Step::Minus(part(artery, artery.clearance(Dir::Inbound, link))),
+        Term::Plus(wait_at(artery, point, Dir::Inbound, link)),
+        Term::Minus(wait_at(artery, point, Dir::Outbound, next)),
+        Term::Minus(wait_at(artery, point, Dir::Inbound, next)),
+        Term::Plus(run_at(artery, point, Dir::Outbound, link)),
+        Term::Plus(run_at(artery, point, Dir::Inbound, link)),
+        Term::Plus(shift_of(artery, point, link)),
+        Term::Minus(shift_of(artery, point, next)),
+        Term::Plus(part(artery, artery.common_red(link))),
+        Term::Minus(part(artery, artery.common_red(next))),
+        Term::Minus(part(artery, artery.clearance(Dir::Outbound, next))),
+        Term::Minus(part(artery, artery.clearance(Dir::Inbound, link))),
     ];
     put_all(wait_at(artery, point, Dir::Outbound, link), &steps)
 }

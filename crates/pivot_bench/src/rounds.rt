@@ -11,7 +11,7 @@ use fraction_tableau::Tableau;
 use loop_rows::column_count;
 use named_row::Row;
 use narrow_fraction::Memory;
-use program_builder::{ArteryTable, make_loaded, make_tableau, reset_from};
+use program_builder::{make_loaded, make_unloaded, reset_from};
 use search_box::SearchBox;
 use std::alloc::Global;
 
@@ -27,7 +27,7 @@ fn opening(
     ensures dual { IfOk result (λ tableau. IsDual tableau.table) }
     ensures unspent { IfOk result (λ tableau. tableau.spent ≡ false) }
 {
-    let mut tableau = make_tableau(alloc, &ArteryTable { artery })?;
+    let mut tableau = make_unloaded(alloc, artery)?;
     reset_from(&mut tableau, rows, artery, area);
     Ok(tableau)
 }

@@ -83,7 +83,7 @@ entered a box vs b = entry_keeps_all vs (loaded a box) (box_rows a box) (goal_of
 pub made_on_the_way : (a : Street) (box : Area) (vs : List ℕ) (t : NamedTableau) → IsReady vs (loaded a box) → IsShaped t.table → IsSpentOnTheWay vs (loaded_box a box) t → IsMadeFor a t
 made_on_the_way a box vs t r h s =
     let l = s.within in
-    let q = under_way vs r.table r.dual r.names (loaded a box) r.fresh r.forms s.turns (omega arith) in
+    let q = under_way vs r.table r.dual r.names (loaded a box) r.fresh r.forms s.pivots (omega arith) in
     made_spent (artery_table a) _ t q.entering.shaped h s.spent (record {
       rows = q.entering.rows ∙ height-loaded (artery_table a) box;
       columns =

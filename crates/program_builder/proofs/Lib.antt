@@ -14,9 +14,9 @@ pub mod RowOrder
 mod EntryRefusals
 pub mod Entry
 pub mod First
-mod EntryTurns
-mod BoundTurns
-mod RememberedTurns
+mod EntryPivots
+mod BoundPivots
+mod RememberedPivots
 mod SameLoaded
 mod WrittenBounds
 mod WrittenRows
@@ -27,3 +27,4 @@ pub mod StartPivots
 pub mod CommonParts
 pub mod UnitFits
 pub mod BoxBounds
+pub mod RowSets

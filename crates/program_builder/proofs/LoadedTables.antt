@@ -10,7 +10,7 @@ use Rattle.simplex_theory.specs.Tableau.{line, height, width, basic_at, standing
 use Rattle.simplex_theory.proofs.Loaded.{IsLoaded}
 use Rattle.simplex_theory.specs.RowLists.{system_of, row_at, HasShape}
 use Rattle.fraction_tableau.specs.NamedTableaus.{unnamed, name_in}
-use Rattle.program_builder.specs.RowTable.{RowTable, rows_in, IsTable}
+use Rattle.program_builder.specs.ProgramTable.{ProgramTable, rows_in, IsTable}
 use Rattle.program_builder.specs.Loading.{cells_of, goal_cells_of, loaded_table}
 use Rattle.program_builder.proofs.LineCells.{cells_width, cells_at, cells_bound}
 
@@ -32,7 +32,7 @@ goal_cells_each P g z [] (suc k) h = z
 goal_cells_each P g z (x ∷ xs) zero h = g x (h 0)
 goal_cells_each P g z (x ∷ xs) (suc k) h = goal_cells_each P g z xs k (λ i. h (suc i))
 
-module _ (p : RowTable) (box : Area) where
+module _ (p : ProgramTable) (box : Area) where
   -- ---- as it is loaded
   pub height-loaded : height (loaded_table p box) ≡ length p.names
   unfolding loaded_table

@@ -11,7 +11,7 @@ use Rattle.program_builder.specs.Building.{IsMadeFor, loaded_box}
 use Rattle.program_builder.specs.EntryRefusals.{entry_refusal}
 use Rattle.program_builder.specs.Entry.{IsBasisOf, entered_box}
 use Rattle.program_builder.specs.Remembering.{HaveRoom, AreNotesOf, IsRemembered, IsEntryOf, IsKept, IsMemoryOf}
-use Rattle.program_builder.specs.declared.noting.Turn.{Turn}
+use Rattle.program_builder.specs.declared.noting.NotedPivot.{NotedPivot}
 use Rattle.program_builder.specs.declared.remembering.EntryMemory.{EntryMemory}
 use Rattle.program_builder.proofs.LoadedTables.{height-loaded, width-loaded}
 use Rattle.program_builder.proofs.Entry.{ready}
@@ -21,13 +21,13 @@ pub made_loaded : (a : Street) (box : Area) → IsMadeFor a (loaded_box a box)
 made_loaded a box = record { rows = height-loaded (artery_table a) box; columns = width-loaded (artery_table a) box }
 
 -- ---- what is kept serves each box of the artery
-pub remembered_here : (a : Street) (box : Area) (vs : List ℕ) (m : EntryMemory) → IsBasisOf a vs → IsKept a m → m.basis.items ≡ vs → IsRemembered vs m.turns.items (loaded a box)
+pub remembered_here : (a : Street) (box : Area) (vs : List ℕ) (m : EntryMemory) → IsBasisOf a vs → IsKept a m → m.basis.items ≡ vs → IsRemembered vs m.pivots.items (loaded a box)
 remembered_here a box vs m b k e = record {
   table = loaded a k.box;
   ready = ready a k.box vs b;
   cells = loaded_same_cells a k.box box;
   passed = subst (λ us. entry_refusal us (loaded a k.box) ≡ None) e k.passed;
-  notes = subst (λ us. AreNotesOf us (loaded a k.box) m.turns.items) e k.notes;
+  notes = subst (λ us. AreNotesOf us (loaded a k.box) m.pivots.items) e k.notes;
 }
 
 pub entry_here : (a : Street) (box : Area) (vs : List ℕ) (m : EntryMemory) → IsBasisOf a vs → IsKept a m → m.basis.items ≡ vs → IsEntryOf vs m.tableau (loaded_box a box)
@@ -38,14 +38,14 @@ entry_here a box vs m b k e = record {
   is = subst (λ us. m.tableau ≡ entered_box a k.box us) e k.tableau;
 }
 
-pub room_here : (a : Street) (box : Area) (turns : List Turn) → HaveRoom turns (length (rows_of a) + 1) → HaveRoom turns (height (loaded a box) + 1)
-room_here a box turns h = subst (λ n. HaveRoom turns (n + 1)) (sym (height-loaded (artery_table a) box)) h
+pub room_here : (a : Street) (box : Area) (pivots : List NotedPivot) → HaveRoom pivots (length (rows_of a) + 1) → HaveRoom pivots (height (loaded a box) + 1)
+room_here a box pivots h = subst (λ n. HaveRoom pivots (n + 1)) (sym (height-loaded (artery_table a) box)) h
 
-pub room_back : (a : Street) (box : Area) (turns : List Turn) → HaveRoom turns (height (loaded a box) + 1) → HaveRoom turns (length (rows_of a) + 1)
-room_back a box turns h = subst (λ n. HaveRoom turns (n + 1)) (height-loaded (artery_table a) box) h
+pub room_back : (a : Street) (box : Area) (pivots : List NotedPivot) → HaveRoom pivots (height (loaded a box) + 1) → HaveRoom pivots (length (rows_of a) + 1)
+room_back a box pivots h = subst (λ n. HaveRoom pivots (n + 1)) (height-loaded (artery_table a) box) h
 
 -- ---- a memory that holds nothing
-pub forgotten : (a : Street) (m new : EntryMemory) → IsMemoryOf a m → new.is_kept ≡ false → HaveRoom new.turns.items (length (rows_of a) + 1)
+pub forgotten : (a : Street) (m new : EntryMemory) → IsMemoryOf a m → new.is_kept ≡ false → HaveRoom new.pivots.items (length (rows_of a) + 1)
     → new.bounds.len ≡ m.bounds.len → IsMadeFor a new.tableau → IsMemoryOf a new
 forgotten a m new h k t b made = record {
   made = made;
@@ -56,8 +56,8 @@ forgotten a m new h k t b made = record {
 
 -- and one that holds an entry
 pub holding : (a : Street) (box : Area) (vs : List ℕ) (m new : EntryMemory) → IsMemoryOf a m → new.bounds.len ≡ m.bounds.len
-    → HaveRoom new.turns.items (length (rows_of a) + 1) → IsMadeFor a new.tableau
-    → new.basis.items ≡ vs → entry_refusal vs (loaded a box) ≡ None → AreNotesOf vs (loaded a box) new.turns.items → new.tableau ≡ entered_box a box vs → IsMemoryOf a new
+    → HaveRoom new.pivots.items (length (rows_of a) + 1) → IsMadeFor a new.tableau
+    → new.basis.items ≡ vs → entry_refusal vs (loaded a box) ≡ None → AreNotesOf vs (loaded a box) new.pivots.items → new.tableau ≡ entered_box a box vs → IsMemoryOf a new
 holding a box vs m new h b t made e p n x = record {
   made = made;
   columns = t;
@@ -65,7 +65,7 @@ holding a box vs m new h b t made e p n x = record {
   kept = λ _. record {
     box = box;
     passed = subst (λ us. entry_refusal us (loaded a box) ≡ None) (sym e) p;
-    notes = subst (λ us. AreNotesOf us (loaded a box) new.turns.items) (sym e) n;
+    notes = subst (λ us. AreNotesOf us (loaded a box) new.pivots.items) (sym e) n;
     tableau = subst (λ us. new.tableau ≡ entered_box a box us) (sym e) x;
   };
 }

@@ -26,7 +26,7 @@ use Rattle.simplex_theory.specs.RowLists.{HasShape, StandsForRows}
 use Rattle.fraction_tableau.specs.NamedTableaus.{name_in}
 use Rattle.program_builder.specs.BoxRows.{rows_of}
 use Rattle.program_builder.proofs.FirstRows.{rows_least, outbound_waits, inbound_waits}
-use Rattle.program_builder.specs.RowTable.{RowTable}
+use Rattle.program_builder.specs.ProgramTable.{ProgramTable}
 use Rattle.program_builder.specs.Loading.{cells_of}
 use Rattle.program_builder.specs.StartPivots.{after_pivots}
 use Rattle.program_builder.specs.Opening.{row_for, box_rows, goal_of, artery_table, loaded, opening}
@@ -37,7 +37,7 @@ use Rattle.program_builder.proofs.UnitPivots.{unit_place, unit_goal_at, unit_goa
 use Rattle.program_builder.specs.OpeningLaws.{wait_row}
 
 module _ (a : Street) (box : Area) where
-  abbrev table : RowTable
+  abbrev table : ProgramTable
   table = artery_table a
 
   -- ---- the two rows of the start

@@ -28,7 +28,7 @@ unfolding after_pivots
 width-pivots [] t = refl
 width-pivots (p ∷ ps) t = width-pivots ps (exchange p.row p.column t) ∙ width-exchange p.row p.column t
 
--- each pivot, in its turn, is at a cell that isn't 0
+-- each pivot, as it comes, is at a cell that isn't 0
 abbrev pub ArePlaces : List StartPivot → Tableau → Type 0
 ArePlaces [] t = Unit {0}
 ArePlaces (p ∷ ps) t = IsPlace t p.row p.column × ArePlaces ps (exchange p.row p.column t)
@@ -168,7 +168,7 @@ unit_dual ps t s q us g =
     }
 
 -- ---- one pivot after another
--- each pivot, in its turn, is at a cell that isn't 0, and none of its operations is refused
+-- each pivot, as it comes, is at a cell that isn't 0, and none of its operations is refused
 abbrev pub AreReady : List StartPivot → Tableau → Type 0
 AreReady [] t = Unit {0}
 AreReady (p ∷ ps) t = IsPlace t p.row p.column × (pivot_refusal p.row p.column t.rows t.goal ≡ None) × AreReady ps (exchange p.row p.column t)

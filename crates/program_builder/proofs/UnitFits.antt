@@ -4,7 +4,7 @@ use Rattle.std.proofs.Common.{◌≡◌, ℕ, suc, pos, None, List, [], ◌∷�
 use Rattle.std.proofs.lemmas.Bool.{cases_eq}
 use Rattle.rational_theory.specs.Rational.{ℚ, whole, neg_ℚ, ◌+ℚ◌, ◌*ℚ◌}
 use Rattle.rational_theory.proofs.Ring.{ring, at, lit, minus, ◌⊕◌, ◌⊗◌}
-use Rattle.simplex_theory.specs.Lines.{turned, cleared}
+use Rattle.simplex_theory.specs.Lines.{divided, cleared}
 use Rattle.simplex_theory.proofs.Lines.{cleared_at, cleared_other}
 use Rattle.simplex_theory.specs.Tableau.{Tableau, line, height, IsShaped, exchange}
 use Rattle.simplex_theory.proofs.Tableau.{height-exchange, shaped-exchange, goal-exchange, line-exchange_same, line-exchange_other}
@@ -15,7 +15,7 @@ use Rattle.program_builder.specs.declared.pivots.StartPivot.{StartPivot}
 use Rattle.program_builder.proofs.CommonParts.{IsParts, parts_up_to, parts_more, parts_neg, parts_times, parts_less_times}
 use Rattle.program_builder.proofs.Narrowing.{up_to_fits}
 use Rattle.program_builder.proofs.UnitPivots.{cleared_kept}
-use Rattle.program_builder.proofs.UnitRefusals.{IsEasy, turned_kept, pivot_none}
+use Rattle.program_builder.proofs.UnitRefusals.{IsEasy, divided_kept, pivot_none}
 use Rattle.program_builder.proofs.StartPivots.{AreReady, IsUnitPivot, AreApart, AreUnitPivots, unit_is_place, kept, units_once}
 
 -- The pivots' rows have m parts of e at most, the rows that they touch n of d; and after all steps every number and product of them fits.
@@ -90,10 +90,10 @@ module _ (z : Sizes) where
   -- ---- one pivot, with its row c
   module _ (k : ℕ) (p : StartPivot) (c : List ℚ) (own : HasParts z.e z.m c) (inside : p.column < length c) (unit : get_or c p.column (whole (pos 0)) ≡ whole (pos 1)) where
     abbrev after : List ℚ
-    after = turned p.column c
+    after = divided p.column c
 
     same : (j : ℕ) → get_or after j (whole (pos 0)) ≡ get_or c j (whole (pos 0))
-    same j = turned_kept p.column j c inside unit
+    same j = divided_kept p.column j c inside unit
 
     -- a touched row has a step's parts more
     grown : (r : List ℚ) → p.column < length r → HasParts (z.d * z.e) (z.n * z.e + k * (z.n * z.m)) r → IsParts z.d z.n (get_or r p.column (whole (pos 0)))

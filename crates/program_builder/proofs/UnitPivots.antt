@@ -6,7 +6,7 @@ use Rattle.rational_theory.specs.Rational.{ℚ, whole, neg_ℚ, inverse_ℚ, ◌
 use Rattle.rational_theory.proofs.Order.{*ℚ-inverse, whole_not_zero}
 use Rattle.rational_theory.proofs.Ring.{one-*ℚ, ring, at, lit, minus, ◌⊕◌, ◌⊗◌}
 use Rattle.simplex_theory.proofs.Signs.{inverse_neg}
-use Rattle.simplex_theory.specs.Lines.{turned, cleared}
+use Rattle.simplex_theory.specs.Lines.{divided, cleared}
 use Rattle.simplex_theory.proofs.Lines.{cleared_at, cleared_other}
 use Rattle.simplex_theory.specs.Tableau.{Tableau, line, cell, goal_cell, height, width, IsShaped, IsPlace, exchange}
 use Rattle.simplex_theory.proofs.Tableau.{line-exchange_other}
@@ -51,4 +51,4 @@ cleared_kept j k e d h z = pick (cases_eq k j)
 pub cell_kept : (r j i k : ℕ) (t : Tableau) → IsShaped t → j < width t → i < height t → (i ≡ r → ⊥) → cell t i j ≡ whole (pos 0) → cell (exchange r j t) i k ≡ cell t i k
 cell_kept r j i k t s h l n z =
     ap (λ (c : List ℚ). get_or c k (whole (pos 0))) (line-exchange_other r j i t l n)
-    ∙ cleared_kept j k (turned j (line t r)) (line t i) (let e = s.lines i l in omega arith) z
+    ∙ cleared_kept j k (divided j (line t r)) (line t i) (let e = s.lines i l in omega arith) z

@@ -1,4 +1,4 @@
--- Lists of numbers while they are written one after another: notes, and bounds that are turned.
+-- Lists of numbers while they are written one after another: notes, and bounds that a pivot changes.
 use Rattle.std.proofs.Common.{◌≡◌, ℕ, pos, List, get_or, set, length, ◌+◌, ◌<◌, ◌≤◌, ◌⊎◌, inl, inr, sym, ◌∙◌, ap, subst, arith}
 use Rattle.std.proofs.Math.ListN.{length-set}
 use Rattle.std.proofs.lemmas.List.{get_or-set_same, get_or-set_other, get_or_past}
@@ -17,8 +17,8 @@ use Rattle.fraction_tableau.specs.KeptCells.{number_in}
 use Rattle.fraction_tableau.proofs.Zeros.{negated_zero}
 use Rattle.simplex_theory.specs.Tableau.{Tableau, width}
 use Rattle.entry_theory.specs.Entry.{variable_at, entry_row, entry_after}
-use Rattle.program_builder.specs.Remembering.{IsLess, AreTurned, IsNoteOf, AreNotesOf}
-use Rattle.program_builder.specs.declared.noting.Turn.{Turn}
+use Rattle.program_builder.specs.Remembering.{IsLess, ArePivoted, IsNoteOf, AreNotesOf}
+use Rattle.program_builder.specs.declared.noting.NotedPivot.{NotedPivot}
 
 -- ---- written one after another
 -- the first k are f's, and all are as many as before
@@ -52,8 +52,8 @@ zero_own factor own e = ap (λ t. factor *ℚ t) e ∙ *ℚ-zero factor
 pub zero_factor : (factor own : ℚ) → factor ≡ whole (pos 0) → factor *ℚ own ≡ whole (pos 0)
 zero_factor factor own e = ap (λ t. t *ℚ own) e ∙ zero-*ℚ own
 
--- ---- bounds that are turned, up to a row
-pub record IsTurningBounds (r : ℕ) (column old now : List ℚ) (k : ℕ) : Type 0 where
+-- ---- bounds that a pivot changes, up to a row
+pub record IsPivotingBounds (r : ℕ) (column old now : List ℚ) (k : ℕ) : Type 0 where
   pub count : length now ≡ length old
   pub own : number_in now r ≡ number_in old r *ℚ inverse_ℚ (number_in column r)
   pub quotient : Fits128 Div (number_in old r) (number_in column r)
@@ -62,8 +62,8 @@ pub record IsTurningBounds (r : ℕ) (column old now : List ℚ) (k : ℕ) : Typ
   pub narrow : IsNarrow now
 
 -- the pivot's own row
-pub turning_own : (r : ℕ) (column old now : List ℚ) (k : ℕ) → IsTurningBounds r column old now k → k ≡ r → IsTurningBounds r column old now (k + 1)
-turning_own r column old now k t e = record {
+pub pivoting_own : (r : ℕ) (column old now : List ℚ) (k : ℕ) → IsPivotingBounds r column old now k → k ≡ r → IsPivotingBounds r column old now (k + 1)
+pivoting_own r column old now k t e = record {
   count = t.count;
   own = t.own;
   quotient = t.quotient;
@@ -73,10 +73,10 @@ turning_own r column old now k t e = record {
 }
 
 -- another row
-pub turning_next : (r : ℕ) (column old now : List ℚ) (k : ℕ) (x : ℚ) → IsTurningBounds r column old now k → (k ≡ r → ⊥) → k < length now
+pub pivoting_next : (r : ℕ) (column old now : List ℚ) (k : ℕ) (x : ℚ) → IsPivotingBounds r column old now k → (k ≡ r → ⊥) → k < length now
     → IsLess (number_in column k) (number_in now r) (number_in now k) x → FitsFrac x
-    → IsTurningBounds r column old (set now k x) (k + 1)
-turning_next r column old now k x t n h l f = record {
+    → IsPivotingBounds r column old (set now k x) (k + 1)
+pivoting_next r column old now k x t n h l f = record {
   count = length-set now k x ∙ t.count;
   own = own ∙ t.own;
   quotient = t.quotient;
@@ -97,10 +97,10 @@ turning_next r column old now k x t n h l f = record {
         subst (λ z. IsLess (number_in column i) (number_in now r) (number_in old i) z) (sym (get_or-set_other now k i x (whole (pos 0)) (λ d. absurd (omega arith)))) (t.done i q o)
 
 -- the pivot's own row alone, where its new bound is 0
-pub turned_alone : (r : ℕ) (column old : List ℚ) (x : ℚ) → r < length old → IsNarrow old → x ≡ number_in old r *ℚ inverse_ℚ (number_in column r)
+pub pivoted_alone : (r : ℕ) (column old : List ℚ) (x : ℚ) → r < length old → IsNarrow old → x ≡ number_in old r *ℚ inverse_ℚ (number_in column r)
     → Fits128 Div (number_in old r) (number_in column r) → x ≡ whole (pos 0)
-    → AreTurned r column old (set old r x)
-turned_alone r column old x h n e q z = record {
+    → ArePivoted r column old (set old r x)
+pivoted_alone r column old x h n e q z = record {
   count = length-set old r x;
   own = own ∙ e;
   quotient = q;
@@ -113,24 +113,24 @@ turned_alone r column old x h n e q z = record {
     own = get_or-set_same old r x (whole (pos 0)) h
 
 -- ---- notes
--- the notes of the turns below k
-abbrev pub AreNotesBelow : List ℕ → Tableau → ℕ → List Turn → Type 0
-AreNotesBelow vs t k notes = (j : ℕ) (d : Turn) → j < k → j < length notes → variable_at vs j < width (entry_after vs t j)
+-- the notes of the pivots below k
+abbrev pub AreNotesBelow : List ℕ → Tableau → ℕ → List NotedPivot → Type 0
+AreNotesBelow vs t k notes = (j : ℕ) (d : NotedPivot) → j < k → j < length notes → variable_at vs j < width (entry_after vs t j)
     → IsNoteOf (entry_after vs t j) (entry_row vs (entry_after vs t j) (variable_at vs j)) (variable_at vs j) (get_or notes j d)
 
-pub notes_none : (vs : List ℕ) (t : Tableau) (notes : List Turn) → AreNotesBelow vs t 0 notes
+pub notes_none : (vs : List ℕ) (t : Tableau) (notes : List NotedPivot) → AreNotesBelow vs t 0 notes
 notes_none vs t notes j d h = absurd (omega arith)
 
-pub notes_next : (vs : List ℕ) (t now : Tableau) (k : ℕ) (old new : List Turn) → now ≡ entry_after vs t k → length new ≡ length old → AreNotesBelow vs t k old
-    → ((i : ℕ) (d : Turn) → (i ≡ k → ⊥) → get_or new i d ≡ get_or old i d)
-    → (variable_at vs k < width now → (d : Turn) → k < length old → IsNoteOf now (entry_row vs now (variable_at vs k)) (variable_at vs k) (get_or new k d)) → AreNotesBelow vs t (k + 1) new
+pub notes_next : (vs : List ℕ) (t now : Tableau) (k : ℕ) (old new : List NotedPivot) → now ≡ entry_after vs t k → length new ≡ length old → AreNotesBelow vs t k old
+    → ((i : ℕ) (d : NotedPivot) → (i ≡ k → ⊥) → get_or new i d ≡ get_or old i d)
+    → (variable_at vs k < width now → (d : NotedPivot) → k < length old → IsNoteOf now (entry_row vs now (variable_at vs k)) (variable_at vs k) (get_or new k d)) → AreNotesBelow vs t (k + 1) new
 notes_next vs t now k old new e l n o f j d h m w = elim (last_or_before j k h) [
   | inl q ↦ rw q (subst (λ (s : Tableau). IsNoteOf s (entry_row vs s (variable_at vs k)) (variable_at vs k) (get_or new k d)) e
       (f (subst (λ (s : Tableau). variable_at vs k < width s) (sym e) (subst (λ i. variable_at vs i < width (entry_after vs t i)) q w)) d (omega arith)))
   | inr q ↦ subst (IsNoteOf (entry_after vs t j) (entry_row vs (entry_after vs t j) (variable_at vs j)) (variable_at vs j)) (sym (o j d (λ b. absurd (omega arith)))) (n j d q (omega arith) w)
 ]
 
-pub notes_all : (vs : List ℕ) (t : Tableau) (k : ℕ) (notes : List Turn) → k ≡ length vs → AreNotesBelow vs t k notes → AreNotesOf vs t notes
+pub notes_all : (vs : List ℕ) (t : Tableau) (k : ℕ) (notes : List NotedPivot) → k ≡ length vs → AreNotesBelow vs t k notes → AreNotesOf vs t notes
 notes_all vs t k notes e n j d h m w = n j d (omega arith) m w
 
 -- ---- all of them fit

@@ -10,7 +10,7 @@ use Rattle.fraction_tableau.specs.NamedTableaus.{NamedTableau, number_at, reboun
 use Rattle.entry_theory.specs.SameCells.{HaveSameCells}
 use Rattle.program_builder.specs.Remembering.{HasBounds}
 use Rattle.program_builder.proofs.WrittenBounds.{last_or_before}
-use Rattle.program_builder.proofs.BoundTurns.{number_row, number_goal, row_or_goal}
+use Rattle.program_builder.proofs.BoundPivots.{number_row, number_goal, row_or_goal}
 
 -- ---- a row with another bound
 rebound_other : (x : ℚ) (row : List ℚ) (w k : ℕ) → length row ≡ suc w → k < w → number_in (rebound x row) k ≡ number_in row k

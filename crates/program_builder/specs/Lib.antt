@@ -1,6 +1,6 @@
 pub mod BoxRows
 pub mod RowOrder
-pub mod RowTable
+pub mod ProgramTable
 pub mod Loading
 pub mod StartPivots
 pub mod Opening

@@ -7,9 +7,8 @@ ghost use Rattle.linear_theory.specs.Boxes.{IsBoxOf};
 ghost use Rattle.simplex_theory.specs.{DualSteps.{IsDual}, RowLists.{StandsForRows}};
 ghost use Rattle.program_builder.specs.{Opening.{box_rows, goal_of}, Building.{IsMadeFor, loaded_box, opened_box}};
 
-use crate::loading::{load, make_tableau};
+use crate::loading::{load_box, make_unloaded};
 use crate::pivots::pivot;
-use crate::table::ArteryTable;
 use artery_model::Artery;
 use fraction_tableau::Tableau;
 use loop_rows::column_count;
@@ -48,7 +47,7 @@ pub fn reset(tableau: &mut Tableau, artery: &Artery, area: &SearchBox, room: &mu
     ensures unspent { room.new.spent ≡ false }
 {
     artery.known_valid();
-    load(tableau, &ArteryTable { artery }, area, &mut (), room);
+    load_box(tableau, artery, area, room);
     enter_bands(tableau, artery, area);
 }
 
@@ -62,7 +61,7 @@ pub fn start(alloc: Global, artery: &Artery, area: &SearchBox) -> Result<Tableau
     ensures stands { IfOk result (λ tableau. StandsForRows tableau.table (box_rows artery.now area.now) (goal_of artery.now)) }
     ensures made { IfOk result (λ tableau. IsMadeFor artery.now tableau) }
 {
-    let mut tableau = make_tableau(alloc, &ArteryTable { artery })?;
+    let mut tableau = make_unloaded(alloc, artery)?;
     let mut room = Row::zero(alloc, column_count(artery))?;
     reset(&mut tableau, artery, area, &mut room);
     Ok(tableau)

@@ -9,9 +9,8 @@ ghost use Rattle.program_builder.specs.{EntryRefusals.{entry_refusal}, Opening.{
 ghost use Rattle.program_builder.specs.Building.{IsMadeFor, opened_box};
 
 use crate::building::reset;
-use crate::loading::load;
-use crate::table::ArteryTable;
-use crate::turning::enter_columns;
+use crate::entry_pivots::enter_columns;
+use crate::loading::load_box;
 use artery_model::Artery;
 use fraction_tableau::Tableau;
 use named_row::Row;
@@ -39,7 +38,7 @@ pub fn enter(
     ensures room { length room.new.coefs ≡ places.width (count artery.now) }
     ensures unspent { room.new.spent ≡ false }
 {
-    load(tableau, &ArteryTable { artery }, area, &mut (), room);
+    load_box(tableau, artery, area, room);
     match enter_columns(tableau, basis, &mut []) {
         Ok(()) => true,
         Err(_) => {

@@ -1,7 +1,7 @@
 //! The tableau that a box of an artery begins from: every row that the artery has, in the order of their names, with the weighted
 //! band as its goal, and in the basis either both bands (the opening) or what another box ended with (the entry).
 //!
-//! Begin with `make_tableau` of an `ArteryTable`, an empty tableau, and `make_loaded`, one more in which the rows of a box are loaded
+//! Begin with `make_unloaded`, an empty tableau, and `make_loaded`, one more in which the rows of a box are loaded
 //! and stay so. `reset_from` makes the opening of any box of the artery in the first, from a copy of the other: only some bounds depend
 //! on the box. The state is `opened_box` (`specs/Building.antt`, over `specs/Opening.antt`): it is dual feasible for each
 //! ratio, it stands for the box's rows and the weighted band, and no number of the start leaves 128 bits. `laws` says which
@@ -12,12 +12,12 @@
 //! `first_of` (`specs/First.antt`), with its law.
 //!
 //! The two parts of a split enter the same basis, and what is loaded for them differs in bounds alone. So an entry, made from such a
-//! copy, leaves in an `EntryMemory` what it takes to enter the other part: the row of each turn of a column, what all rows had at its
-//! place (the product form of the inverse), and the entered tableau. The other part's bounds alone are run through these turns
+//! copy, leaves in an `EntryMemory` what it takes to enter the other part: the row of each pivot, what all rows had at its
+//! place (the product form of the inverse), and the entered tableau. The other part's bounds alone are run through these pivots
 //! (`specs/Remembering.antt`). `enter` does the same with neither copy nor memory.
 //!
-//! What isn't an artery's alone is made for any table of rows, a `TableRows` (`specs/RowTable.antt`): `make_tableau`, `load`
-//! (`specs/Loading.antt`) and `pivot`, one of the pivots of a start (`specs/StartPivots.antt`). `ArteryTable` is an artery's.
+//! What isn't an artery's alone is made for any table of rows, a `RowTable` of `loop_rows` (`specs/ProgramTable.antt`): `make_tableau`,
+//! `load` (`specs/Loading.antt`) and `pivot`, one of the pivots of a start (`specs/StartPivots.antt`).
 //!
 //! `rows_of`, which `law_rows_are_all` says is the list that `next_row` walks, has the rows. Least and equal bands only add rows,
 //! and the goal row comes from the rows of the two start pivots alone. `reset` takes no memory and works on a spent tableau too.
@@ -32,6 +32,7 @@ mod building;
 mod choosing;
 mod counting;
 mod entering;
+mod entry_pivots;
 pub mod laws;
 mod loaded;
 mod loading;
@@ -39,12 +40,10 @@ mod noting;
 mod pivots;
 mod remembering;
 mod table;
-mod turning;
 
 pub use building::{reset, start};
 pub use entering::enter;
 pub use loaded::{load_from, make_loaded, reset_from};
-pub use loading::{load, make_tableau};
+pub use loading::{load, make_tableau, make_unloaded};
 pub use pivots::{StartPivot, pivot};
 pub use remembering::{EntryMemory, enter_remembering};
-pub use table::{ArteryTable, TableRows};

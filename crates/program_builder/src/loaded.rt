@@ -8,8 +8,7 @@ ghost use Rattle.simplex_theory.specs.{DualSteps.{IsDual}, RowLists.{StandsForRo
 ghost use Rattle.program_builder.specs.{Opening.{box_rows, goal_of}, Building.{IsMadeFor, IsLoadedFor, loaded_box, opened_box}};
 
 use crate::building::enter_bands;
-use crate::loading::{load, make_tableau};
-use crate::table::ArteryTable;
+use crate::loading::{load_box, make_unloaded};
 use artery_model::Artery;
 use fraction_tableau::Tableau;
 use loop_rows::box_bound;
@@ -31,8 +30,8 @@ pub fn make_loaded(
     ensures loaded { IfOk result (λ loaded. loaded ≡ loaded_box artery.now area.now) }
     ensures room { IfOk result (λ _. length room.new.coefs ≡ places.width (count artery.now)) }
 {
-    let mut loaded = make_tableau(alloc, &ArteryTable { artery })?;
-    load(&mut loaded, &ArteryTable { artery }, area, &mut (), room);
+    let mut loaded = make_unloaded(alloc, artery)?;
+    load_box(&mut loaded, artery, area, room);
     Ok(loaded)
 }
 

@@ -1,19 +1,20 @@
-//! What is noted of an entry's turns, and the same turns of bounds alone.
+//! What is noted of an entry's pivots, and the same pivots of bounds alone.
 
 ghost use Rattle.std.specs.Prelude.{◌≡◌, ◌+◌, ◌<◌, pos, true, length, IfOk, IfSome};
 ghost use Rattle.rational_theory.specs.Rational.{whole};
 ghost use Rattle.simplex_theory.specs.Tableau.{height};
 ghost use Rattle.narrow_fraction.specs.Fraction.{FitsFrac};
 ghost use Rattle.fraction_tableau.specs.{Narrow.{IsNarrow}, KeptCells.{number_in}, PivotCalls.{CanPivot, Pivots}};
-ghost use Rattle.program_builder.specs.Remembering.{IsLess, AreTurned, IsNoteOf};
+ghost use Rattle.program_builder.specs.Remembering.{IsLess, ArePivoted, IsNoteOf};
 
 use fraction_tableau::{Tableau, WideCell};
 use narrow_fraction::{Frac, Memory, Quotient};
 use std::alloc::Global;
 
-/// The turn of a column: the row that it entered, and what each row and then the goal row had at its place before.
+/// What is noted of a pivot, its eta in the product form of the inverse: the row that the column entered, and what each row and then
+/// the goal row had at its place before.
 #[derive(Drop)]
-pub struct Turn {
+pub struct NotedPivot {
     row: u32,
     column: Vec<Quotient>,
 }
@@ -43,17 +44,17 @@ fn less(bound: Frac, factor: &Quotient, own: Frac) -> Option<Frac>
     }
 }
 
-impl Turn {
-    /// Room for the turn of a column that has so many numbers.
-    pub fn new(alloc: Global, count: usize) -> Result<Turn, Memory>
-        ensures { IfOk result (λ turn. length turn.column.items ≡ count) }
+impl NotedPivot {
+    /// Room for the note of a pivot whose column has so many numbers.
+    pub fn new(alloc: Global, count: usize) -> Result<NotedPivot, Memory>
+        ensures { IfOk result (λ noted. length noted.column.items ≡ count) }
     {
         let zero = Quotient::of_fraction(Frac::whole(0));
         let column = vec![in alloc; zero; count]?;
-        Ok(Turn { row: 0, column })
+        Ok(NotedPivot { row: 0, column })
     }
 
-    /// The pivot by which a column enters a row, and its turn, which the pivot notes on the way.
+    /// The pivot by which a column enters a row, which is noted on the way.
     pub fn pivot(&mut self, tableau: &mut Tableau, row: u32, variable: u32) -> Result<(), WideCell>
         requires room { length self.old.column.items ≡ height tableau.old.table + 1 }
         requires pivot { CanPivot row variable tableau.old }
@@ -65,13 +66,13 @@ impl Turn {
         tableau.pivot_noting(row, variable, &mut self.column)
     }
 
-    /// Makes of bounds what the turn makes of them; false where an operation on one of them leaves 128 bits.
-    pub fn turn_bounds(&self, bounds: &mut [Frac]) -> bool
+    /// Makes of bounds what the pivot makes of them; false where an operation on one of them leaves 128 bits.
+    pub fn pivot_bounds(&self, bounds: &mut [Frac]) -> bool
         requires row { self.now.row < length bounds.old }
         requires column { length self.now.column.items ≡ length bounds.old }
         requires pivot { number_in self.now.column.items self.now.row ≡ whole (pos 0) → ⊥ }
         requires narrow { IsNarrow bounds.old }
-        ensures turned { result ≡ true → AreTurned self.now.row self.now.column.items bounds.old bounds.new }
+        ensures pivoted { result ≡ true → ArePivoted self.now.row self.now.column.items bounds.old bounds.new }
         ensures narrow { IsNarrow bounds.new }
     {
         let row = self.row as usize;

@@ -9,11 +9,10 @@ ghost use Rattle.program_builder.specs.{EntryRefusals.{entry_refusal}, Opening.{
 ghost use Rattle.program_builder.specs.Building.{IsMadeFor, IsLoadedFor, loaded_box, opened_box};
 ghost use Rattle.program_builder.specs.Remembering.{AreBoundsOf, HasBounds, HaveRoom, IsRemembered, IsEntryOf, IsMemoryOf};
 
+use crate::entry_pivots::enter_columns;
 use crate::loaded::{load_from, reset_from};
-use crate::loading::make_tableau;
-use crate::noting::Turn;
-use crate::table::ArteryTable;
-use crate::turning::enter_columns;
+use crate::loading::make_unloaded;
+use crate::noting::NotedPivot;
 use artery_model::Artery;
 use fraction_tableau::Tableau;
 use narrow_fraction::{Frac, Memory};
@@ -35,10 +34,10 @@ fn read_bounds(bounds: &mut [Frac], tableau: &Tableau)
 }
 
 /// Makes of a tableau's bounds what an entry makes of them; false where an operation on one of them leaves 128 bits.
-fn turn_all(turns: &[Turn], basis: &[u32], tableau: &Tableau, bounds: &mut [Frac]) -> bool
-    requires remembered { IsRemembered basis.now turns.now tableau.now.table }
+fn pivot_all(pivots: &[NotedPivot], basis: &[u32], tableau: &Tableau, bounds: &mut [Frac]) -> bool
+    requires remembered { IsRemembered basis.now pivots.now tableau.now.table }
     requires ready { IsReady basis.now tableau.now.table }
-    requires columns { HaveRoom turns.now (length bounds.old) }
+    requires columns { HaveRoom pivots.now (length bounds.old) }
     requires bounds { AreBoundsOf tableau.now.table bounds.old }
     requires narrow { IsNarrow bounds.old }
     ensures bounds { result ≡ true → AreBoundsOf (entry basis.now tableau.now.table) bounds.new }
@@ -47,10 +46,10 @@ fn turn_all(turns: &[Turn], basis: &[u32], tableau: &Tableau, bounds: &mut [Frac
     let width = tableau.width();
     for k in 0..basis.len() {
         if basis[k] < width {
-            if k >= turns.len() {
+            if k >= pivots.len() {
                 return false;
             }
-            if !turns[k].turn_bounds(bounds) {
+            if !pivots[k].pivot_bounds(bounds) {
                 return false;
             }
         }
@@ -70,26 +69,26 @@ fn write_bounds(tableau: &mut Tableau, bounds: &[Frac])
     tableau.set_goal_bound(bounds[rows as usize]);
 }
 
-/// An entry that is remembered: its basis, its turns and the tableau that it came to; and room for bounds.
+/// An entry that is remembered: its basis, its pivots and the tableau that it came to; and room for bounds.
 #[derive(Drop)]
 pub struct EntryMemory {
     is_kept: bool,
     basis: Vec<u32>,
-    turns: Vec<Turn>,
+    pivots: Vec<NotedPivot>,
     bounds: Vec<Frac>,
     tableau: Tableau,
 }
 
-/// Room for so many turns of columns with so many numbers.
-fn make_turns(alloc: Global, count: u32, numbers: usize) -> Result<Vec<Turn>, Memory>
-    ensures { IfOk result (λ turns. HaveRoom turns.items numbers) }
+/// Room for so many pivots of columns with so many numbers.
+fn make_pivots(alloc: Global, count: u32, numbers: usize) -> Result<Vec<NotedPivot>, Memory>
+    ensures { IfOk result (λ pivots. HaveRoom pivots.items numbers) }
 {
-    let mut turns = Vec::new(alloc);
+    let mut pivots = Vec::new(alloc);
     for _ in 0..count {
-        let turn = Turn::new(alloc, numbers)?;
-        turns.push(turn)?;
+        let pivot = NotedPivot::new(alloc, numbers)?;
+        pivots.push(pivot)?;
     }
-    Ok(turns)
+    Ok(pivots)
 }
 
 impl EntryMemory {
@@ -97,15 +96,15 @@ impl EntryMemory {
     pub fn new(alloc: Global, artery: &Artery) -> Result<EntryMemory, Memory>
         ensures { IfOk result (λ memory. IsMemoryOf artery.now memory) }
     {
-        let tableau = make_tableau(alloc, &ArteryTable { artery })?;
+        let tableau = make_unloaded(alloc, artery)?;
         let numbers = tableau.rows() as usize + 1;
-        let turns = make_turns(alloc, tableau.width(), numbers)?;
+        let pivots = make_pivots(alloc, tableau.width(), numbers)?;
         let zero = Frac::whole(0);
         let bounds = vec![in alloc; zero; numbers]?;
         Ok(EntryMemory {
             is_kept: false,
             basis: Vec::new(alloc),
-            turns,
+            pivots,
             bounds,
             tableau,
         })
@@ -146,13 +145,13 @@ impl EntryMemory {
 fn enter_again(
     tableau: &mut Tableau,
     kept: &mut Tableau,
-    turns: &[Turn],
+    pivots: &[NotedPivot],
     basis: &[u32],
     bounds: &mut [Frac],
 ) -> bool
-    requires remembered { IsRemembered basis.now turns.now tableau.old.table }
+    requires remembered { IsRemembered basis.now pivots.now tableau.old.table }
     requires ready { IsReady basis.now tableau.old.table }
-    requires columns { HaveRoom turns.now (height tableau.old.table + 1) }
+    requires columns { HaveRoom pivots.now (height tableau.old.table + 1) }
     requires bounds { length bounds.old ≡ height tableau.old.table + 1 }
     requires entered { IsEntryOf basis.now kept.old tableau.old }
     ensures passed { result ≡ true → entry_refusal basis.now tableau.old.table ≡ None }
@@ -162,7 +161,7 @@ fn enter_again(
     ensures kept { result ≡ false → kept.new ≡ kept.old }
 {
     read_bounds(bounds, tableau);
-    if !turn_all(turns, basis, tableau, bounds) {
+    if !pivot_all(pivots, basis, tableau, bounds) {
         return false;
     }
     mem::swap(tableau, kept);
@@ -194,7 +193,7 @@ fn enter_known(
     enter_again(
         tableau,
         &mut memory.tableau,
-        &memory.turns,
+        &memory.pivots,
         basis,
         &mut memory.bounds,
     )
@@ -218,7 +217,7 @@ fn enter_anew(
     ensures memory { IsMemoryOf artery.now memory.new }
 {
     memory.start(basis)?;
-    match enter_columns(tableau, basis, &mut memory.turns) {
+    match enter_columns(tableau, basis, &mut memory.pivots) {
         Ok(()) => {
             memory.keep(tableau);
             Ok(true)
@@ -231,7 +230,7 @@ fn enter_anew(
 }
 
 /// Makes what `enter` makes, and answers as it does, from a tableau in which the rows of another box are loaded. Where the entry of
-/// this basis is remembered, its turns are made of the bounds alone, unless an operation on one of them leaves 128 bits; else the
+/// this basis is remembered, its pivots are made of the bounds alone, unless an operation on one of them leaves 128 bits; else the
 /// entry is remembered for the next call. The error is want of memory.
 pub fn enter_remembering(
     tableau: &mut Tableau,

@@ -2,6 +2,7 @@ use Rattle.std.proofs.Common.{ap, sym, ◌∙◌, arith, drop, get_or, ◌+◌}
 use Rattle.std.proofs.lemmas.Result.{err_from_is_err_and}
 use Rattle.narrow_fraction.proofs.Attempt.{attempt_err}
 use Rattle.named_row.specs.Sheets.{blank}
+use Rattle.loop_rows.specs.RowSets.{rows_for}
 use Rattle.loop_rows.specs.Weights.{with_weights, first_fault_with, total_of, fault_of}
 use Rattle.loop_rows.proofs.LeafSums.{at_left, left_refused, first_of_all}
 use Rattle.std.proofs.lemmas.Grind.{common_steps}
@@ -10,7 +11,7 @@ use Rattle.loop_rows.proofs.leaves.sum_of.Goals as goal
 pub loop-weight-init : goal.loop-weight-init
 unfolding total_of fault_of
 loop-weight-init g c =
-    let rows = g.S.RowSource.rows c.args.source.now in
+    let rows = rows_for (g.T.RowTable.rows c.args.table.now) c.args.area.now in
     let zeros = sym (c.in_ok-sum.ensures.value ∙ ap blank c.columns-width.ensures) in
     record {
       fault = ap (λ s. first_fault_with rows s c.args.leaf.now.multipliers.items) zeros;
@@ -18,12 +19,12 @@ loop-weight-init g c =
       unspent = c.in_ok-sum.ensures.unspent;
       sum_width = c.in_ok-sum.ensures.width ∙ c.columns-width.ensures;
       row_width = c.in_ok-row.ensures.width ∙ c.columns-width.ensures;
-      room_width = c.in_ok-room.ensures.width ∙ c.spare_columns.ensures;
+      spare = c.in_ok-spare.ensures;
     }
 
 pub returns-in_err-add_weight-clause-fault : goal.returns-in_err-add_weight-clause-fault
 returns-in_err-add_weight-clause-fault g c =
-    let rows = g.S.RowSource.rows c.args.source.now in
+    let rows = rows_for (g.T.RowTable.rows c.args.table.now) c.args.area.now in
     let items = c.args.leaf.now.multipliers.items in
     let i = c.loop-weight.weight-index in
     let below = c.loop-weight-test.true in
@@ -42,5 +43,5 @@ loop-weight-preserved g c = grind (arith, common_steps)
 pub returns : goal.returns
 returns g c = grind (arith, common_steps)
 
-pub returns-in_err-room : goal.returns-in_err-room
-returns-in_err-room g c = grind (arith, common_steps)
+pub returns-in_err-spare : goal.returns-in_err-spare
+returns-in_err-spare g c = grind (arith, common_steps)

@@ -1,5 +1,5 @@
 use Rattle.std.proofs.Common.{sym, ◌∙◌, arith}
-use Rattle.program_builder.proofs.EntryTurns.{row_found, row_none}
+use Rattle.program_builder.proofs.EntryPivots.{row_found, row_none}
 use Rattle.program_builder.proofs.choosing.entry_row.Goals as goal
 
 pub returns-then-can_take : goal.returns-then-can_take

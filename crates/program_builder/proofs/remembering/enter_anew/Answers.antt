@@ -12,7 +12,7 @@ use Rattle.program_builder.specs.Building.{IsMadeFor}
 use Rattle.program_builder.specs.Opening.{loaded}
 use Rattle.program_builder.specs.EntryRefusals.{entry_refusal, IsSpentOnTheWay}
 use Rattle.program_builder.specs.Remembering.{HaveRoom, AreNotesOf, IsMemoryOf}
-use Rattle.program_builder.specs.declared.noting.Turn.{Turn}
+use Rattle.program_builder.specs.declared.noting.NotedPivot.{NotedPivot}
 use Rattle.program_builder.specs.declared.remembering.EntryMemory.{EntryMemory}
 use Rattle.program_builder.proofs.Entry.{ready, made_on_the_way, made_entered}
 use Rattle.program_builder.proofs.Memories.{room_here, room_back, forgotten, holding, made_loaded}
@@ -25,7 +25,7 @@ pub returns-in_err-start-clause-memory : goal.returns-in_err-start-clause-memory
 returns-in_err-start-clause-memory c =
     let rest = c.start.ensures.rest in
     forgotten c.args.artery.now c.args.memory.now c.start.new.self c.requires.memory (ap (λ (m : EntryMemory). m.is_kept) c.start.ensures.rest)
-    (subst (λ (ts : List Turn). HaveRoom ts (length (rows_of c.args.artery.now) + 1)) (sym (ap (λ (m : EntryMemory). m.turns.items) c.start.ensures.rest)) c.requires.memory.columns)
+    (subst (λ (ts : List NotedPivot). HaveRoom ts (length (rows_of c.args.artery.now) + 1)) (sym (ap (λ (m : EntryMemory). m.pivots.items) c.start.ensures.rest)) c.requires.memory.columns)
     (ap (λ (m : EntryMemory). m.bounds.len) c.start.ensures.rest)
     (subst (IsMadeFor c.args.artery.now) (sym (ap (λ (m : EntryMemory). m.tableau) c.start.ensures.rest)) c.requires.memory.made)
 
@@ -35,9 +35,9 @@ enter_columns-requires-clause-ready c =
 
 pub enter_columns-requires-clause-room : goal.enter_columns-requires-clause-room
 enter_columns-requires-clause-room c =
-    subst (λ (ts : List Turn). HaveRoom ts (height c.args.tableau.now.table + 1)) (sym (c.deref_mut.ensures.value ∙ ap (λ (m : EntryMemory). m.turns.items) c.start.ensures.rest))
-    (subst (λ (s : NamedTableau). HaveRoom c.args.memory.now.turns.items (height s.table + 1)) (sym c.requires.loaded)
-    (room_here c.args.artery.now c.args.area.now c.args.memory.now.turns.items c.requires.memory.columns))
+    subst (λ (ts : List NotedPivot). HaveRoom ts (height c.args.tableau.now.table + 1)) (sym (c.deref_mut.ensures.value ∙ ap (λ (m : EntryMemory). m.pivots.items) c.start.ensures.rest))
+    (subst (λ (s : NamedTableau). HaveRoom c.args.memory.now.pivots.items (height s.table + 1)) (sym c.requires.loaded)
+    (room_here c.args.artery.now c.args.area.now c.args.memory.now.pivots.items c.requires.memory.columns))
 
 pub keep-requires-clause-rows : goal.keep-requires-clause-rows
 keep-requires-clause-rows c =
@@ -72,20 +72,20 @@ returns-in-Ok-clause-memory c =
     let e = c.in-Ok.ensures.entered ∙ ap (λ (s : NamedTableau). record { table = entry c.args.basis.now s.table; names = s.names; spent = s.spent }) c.requires.loaded in
     let made = subst (IsMadeFor c.args.artery.now) (sym e)
     (made_entered c.args.artery.now c.args.area.now c.args.basis.now (ready c.args.artery.now c.args.area.now c.args.basis.now c.requires.basis)) in
-    let v = c.start.new.self.turns in
-    let w : (with_items c.start.new.self.turns c.enter_columns.new.notes).items ≡ c.enter_columns.new.notes =
-    with_items_is c.start.new.self.turns c.enter_columns.new.notes (c.enter_columns.auto.notes ∙ ap length c.deref_mut.ensures.value ∙ sym c.start.new.self.turns.ok.0) in
+    let v = c.start.new.self.pivots in
+    let w : (with_items c.start.new.self.pivots c.enter_columns.new.notes).items ≡ c.enter_columns.new.notes =
+    with_items_is c.start.new.self.pivots c.enter_columns.new.notes (c.enter_columns.auto.notes ∙ ap length c.deref_mut.ensures.value ∙ sym c.start.new.self.pivots.ok.0) in
     let room = room_back c.args.artery.now c.args.area.now c.enter_columns.new.notes
     (subst (λ (s : NamedTableau). HaveRoom c.enter_columns.new.notes (height s.table + 1)) c.requires.loaded c.in-Ok.ensures.room) in
     let notes = subst (λ (s : NamedTableau). AreNotesOf c.args.basis.now s.table c.enter_columns.new.notes) c.requires.loaded c.in-Ok.ensures.noted in
     subst (IsMemoryOf c.args.artery.now) (sym c.keep.ensures)
     (holding c.args.artery.now c.args.area.now c.args.basis.now c.args.memory.now _ c.requires.memory
     (ap (λ (m : EntryMemory). m.bounds.len) c.start.ensures.rest)
-    (subst (λ (ts : List Turn). HaveRoom ts (length (rows_of c.args.artery.now) + 1)) (sym w) room)
+    (subst (λ (ts : List NotedPivot). HaveRoom ts (length (rows_of c.args.artery.now) + 1)) (sym w) room)
     made
     c.in_ok-start.ensures.basis
     (sym (ap (λ (t : NamedTableau). entry_refusal c.args.basis.now t.table) c.requires.loaded) ∙ (attempt_ok _ _ _ c.in-Ok.ensures.outcome).0)
-    (subst (λ (ts : List Turn). AreNotesOf c.args.basis.now (loaded c.args.artery.now c.args.area.now) ts) (sym w) notes)
+    (subst (λ (ts : List NotedPivot). AreNotesOf c.args.basis.now (loaded c.args.artery.now c.args.area.now) ts) (sym w) notes)
     e)
 
 pub returns-in-Err-clause-outcome : goal.returns-in-Err-clause-outcome
@@ -100,11 +100,11 @@ returns-in-Err-clause-made c =
 
 pub returns-in-Err-clause-memory : goal.returns-in-Err-clause-memory
 returns-in-Err-clause-memory c =
-    let w : (with_items c.start.new.self.turns c.enter_columns.new.notes).items ≡ c.enter_columns.new.notes =
-    with_items_is c.start.new.self.turns c.enter_columns.new.notes (c.enter_columns.auto.notes ∙ ap length c.deref_mut.ensures.value ∙ sym c.start.new.self.turns.ok.0) in
+    let w : (with_items c.start.new.self.pivots c.enter_columns.new.notes).items ≡ c.enter_columns.new.notes =
+    with_items_is c.start.new.self.pivots c.enter_columns.new.notes (c.enter_columns.auto.notes ∙ ap length c.deref_mut.ensures.value ∙ sym c.start.new.self.pivots.ok.0) in
     let room = room_back c.args.artery.now c.args.area.now c.enter_columns.new.notes
     (subst (λ (s : NamedTableau). HaveRoom c.enter_columns.new.notes (height s.table + 1)) c.requires.loaded c.in-Err.ensures.room) in
     forgotten c.args.artery.now c.args.memory.now _ c.requires.memory (ap (λ (m : EntryMemory). m.is_kept) c.start.ensures.rest)
-    (subst (λ (ts : List Turn). HaveRoom ts (length (rows_of c.args.artery.now) + 1)) (sym w) room)
+    (subst (λ (ts : List NotedPivot). HaveRoom ts (length (rows_of c.args.artery.now) + 1)) (sym w) room)
     (ap (λ (m : EntryMemory). m.bounds.len) c.start.ensures.rest)
     (subst (IsMadeFor c.args.artery.now) (sym (ap (λ (m : EntryMemory). m.tableau) c.start.ensures.rest)) c.requires.memory.made)

@@ -7,7 +7,7 @@ use Rattle.program_builder.specs.Opening.{artery_table}
 use Rattle.program_builder.specs.Building.{IsMadeFor}
 use Rattle.program_builder.specs.EntryRefusals.{entry_refusal}
 use Rattle.program_builder.specs.Remembering.{HaveRoom, IsRemembered, IsEntryOf}
-use Rattle.program_builder.specs.declared.noting.Turn.{Turn}
+use Rattle.program_builder.specs.declared.noting.NotedPivot.{NotedPivot}
 use Rattle.program_builder.proofs.LoadedTables.{height-loaded}
 use Rattle.program_builder.proofs.Entry.{ready}
 use Rattle.program_builder.proofs.Memories.{remembered_here, entry_here, room_here, forgotten, made_either, made_loaded}
@@ -15,8 +15,8 @@ use Rattle.program_builder.proofs.remembering.enter_known.Goals as goal
 
 pub enter_again-requires-clause-remembered : goal.enter_again-requires-clause-remembered
 enter_again-requires-clause-remembered c =
-    subst (λ (ts : List Turn). IsRemembered c.args.basis.now ts c.args.tableau.now.table) (sym c.deref.ensures.value)
-    (subst (λ (s : NamedTableau). IsRemembered c.args.basis.now c.args.memory.now.turns.items s.table) (sym c.requires.loaded)
+    subst (λ (ts : List NotedPivot). IsRemembered c.args.basis.now ts c.args.tableau.now.table) (sym c.deref.ensures.value)
+    (subst (λ (s : NamedTableau). IsRemembered c.args.basis.now c.args.memory.now.pivots.items s.table) (sym c.requires.loaded)
     (remembered_here c.args.artery.now c.args.area.now c.args.basis.now c.args.memory.now c.requires.basis (c.requires.memory.kept (c.is_for.ensures.kept c.if-not-is_for.false))
     (c.is_for.ensures.basis c.if-not-is_for.false)))
 
@@ -26,9 +26,9 @@ enter_again-requires-clause-ready c =
 
 pub enter_again-requires-clause-columns : goal.enter_again-requires-clause-columns
 enter_again-requires-clause-columns c =
-    subst (λ (ts : List Turn). HaveRoom ts (height c.args.tableau.now.table + 1)) (sym c.deref.ensures.value)
-    (subst (λ (s : NamedTableau). HaveRoom c.args.memory.now.turns.items (height s.table + 1)) (sym c.requires.loaded)
-    (room_here c.args.artery.now c.args.area.now c.args.memory.now.turns.items c.requires.memory.columns))
+    subst (λ (ts : List NotedPivot). HaveRoom ts (height c.args.tableau.now.table + 1)) (sym c.deref.ensures.value)
+    (subst (λ (s : NamedTableau). HaveRoom c.args.memory.now.pivots.items (height s.table + 1)) (sym c.requires.loaded)
+    (room_here c.args.artery.now c.args.area.now c.args.memory.now.pivots.items c.requires.memory.columns))
 
 pub enter_again-requires-clause-bounds : goal.enter_again-requires-clause-bounds
 enter_again-requires-clause-bounds c =

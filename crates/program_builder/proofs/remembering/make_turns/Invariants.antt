@@ -1,5 +1,0 @@
-use Rattle.program_builder.specs.Remembering.{HaveRoom}
-use Rattle.program_builder.proofs.remembering.make_turns.Given as goal
-
-abbrev pub invariant-loop : goal.invariant-loop
-invariant-loop l = HaveRoom l.turns.items l.numbers

@@ -1,5 +1,0 @@
-use Rattle.program_builder.proofs.RememberedTurns.{AreBoundsAfter}
-use Rattle.program_builder.proofs.remembering.turn_all.Given as goal
-
-abbrev pub invariant-loop-k : goal.invariant-loop-k
-invariant-loop-k l = AreBoundsAfter l.basis l.tableau.table l.k l.bounds
