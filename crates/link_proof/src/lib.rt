@@ -24,7 +24,7 @@ mod writing;
 
 pub use certificate::LinkCertificate;
 pub use checking::{LinkReject, law_link_accepted_or_refused, link_check};
-pub use families::{LINK_FAMILIES, link_families};
+pub use families::link_families;
 pub use laws::law_links_text;
 pub use reading::read_links;
 pub use writing::write_links;

@@ -5,14 +5,13 @@ ghost use Rattle.plan_text.specs.Lines.{Gives};
 ghost use Rattle.link_proof.specs.LinkWarrants.{LinkWarrant, IsHeldLinkWarrant, links_text, links_of};
 
 use crate::certificate::LinkCertificate;
-use crate::timing_text::LinkBands;
 use plan_text::{TextEnd, headed_at};
 use std::alloc::Global;
 
 fn links_of(alloc: Global, bytes: &[u8]) -> Result<LinkCertificate, TextEnd>
     ensures { Gives (λ c. c) result (links_of bytes.now) }
 {
-    let parts = headed_at::<LinkBands>(alloc, b"maxband-links 1", bytes)?;
+    let parts = headed_at::<LinkCertificate>(alloc, b"maxband-links 1", bytes)?;
     Ok(LinkCertificate {
         claim: parts.claim,
         timing: parts.timing,

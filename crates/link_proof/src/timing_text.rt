@@ -5,12 +5,13 @@ ghost use Rattle.progression.specs.TimingRecord.{first};
 ghost use Rattle.link_theory.specs.LinkRecord.{lines};
 ghost use Rattle.link_proof.specs.{LinkFamilies.{links}, LinkTimingTexts.{link_bands}};
 
+use crate::certificate::LinkCertificate;
 use crate::families::link_families;
 use link_space::LinkTiming;
 use narrow_fraction::Memory;
 use plan_text::{
-    CertNode, Naming, TextEnd, TimingKind, base_at, both_ways_at, pair_at, push_base, push_firsts,
-    push_numbers, push_tree, tree_at,
+    CertNode, CertificateKind, Naming, TextEnd, base_at, both_ways_at, pair_at, push_base,
+    push_firsts, push_numbers, push_tree, tree_at,
 };
 use progression::Dir;
 use std::alloc::Global;
@@ -23,10 +24,7 @@ fn first_of(timing: &LinkTiming, dir: Dir) -> u128
     timing.first(dir).unsigned_abs()
 }
 
-/// Timings with a band for each link in each direction.
-pub struct LinkBands;
-
-impl TimingKind for LinkBands {
+impl CertificateKind for LinkCertificate {
     type Timing = LinkTiming;
 
     ghost text = { link_bands };
@@ -64,13 +62,10 @@ impl TimingKind for LinkBands {
     }
 
     fn named_tree_at(alloc: Global, line: u64, bytes: &[u8]) -> Result<Vec<CertNode>, TextEnd> {
-        let names = link_families(alloc)?;
-        tree_at(alloc, Naming::Named(names.as_slice()), line, bytes)
+        tree_at(alloc, Naming::Named(link_families()), line, bytes)
     }
 
     fn push_named_tree(out: &mut Vec<u8>, nodes: &[CertNode]) -> Result<(), Memory> {
-        let alloc = *out.allocator();
-        let names = link_families(alloc)?;
-        push_tree(out, Naming::Named(names.as_slice()), nodes)
+        push_tree(out, Naming::Named(link_families()), nodes)
     }
 }

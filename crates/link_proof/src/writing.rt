@@ -4,7 +4,6 @@ ghost use Rattle.std.specs.Prelude.{◌≡◌, Ok, IfOk};
 ghost use Rattle.link_proof.specs.LinkWarrants.{links_text, links_of};
 
 use crate::certificate::LinkCertificate;
-use crate::timing_text::LinkBands;
 use narrow_fraction::Memory;
 use plan_text::write_named;
 use std::alloc::Global;
@@ -15,7 +14,7 @@ pub fn write_links(alloc: Global, certificate: &LinkCertificate) -> Result<Vec<u
     ensures read_back { IfOk result (λ v. links_of v.items ≡ Ok certificate.now) }
 {
     let nodes = certificate.nodes.as_slice();
-    write_named::<LinkBands>(
+    write_named::<LinkCertificate>(
         alloc,
         b"maxband-links 1",
         &certificate.claim,

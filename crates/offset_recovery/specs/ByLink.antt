@@ -13,3 +13,7 @@ tests_by_link a x at = first_below (λ j. number_test (at (j + 1)) (ticks_in a x
 
 abbrev pub ticks_by_link : Street → List ℚ → (ℕ → ℕ) → List ℕ
 ticks_by_link a x at = numbered (count a - 1) 1 (λ i. ticks_in a x (at i))
+
+-- the place of a link's column, of columns that stand side by side from that of link 1 on
+abbrev pub from_first : ℕ → ℕ → ℕ
+from_first first i = first + (i - 1)

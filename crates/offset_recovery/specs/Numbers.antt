@@ -10,12 +10,13 @@ use Rattle.progression.specs.Green.{is_early}
 use Rattle.progression.specs.Columns.{BandOf, Frequency, WaitOf, RunOf, numbered}
 use Rattle.progression.specs.declared.parts.Dir.{Dir}
 use Rattle.progression.specs.declared.parts.Dir.TheVariants.{Outbound, Inbound}
-use Rattle.linear_theory.specs.Places.{width}
+use Rattle.linear_theory.specs.Places.{place, width}
 use Rattle.recovery_theory.specs.Ticks.{common, unit_of, ticks_of}
 use Rattle.recovery_theory.specs.Placing.{pattern_at, with_out, reds_of, with_reds}
 use Rattle.narrow_fraction.specs.Attempt.{attempt, first_below}
 use Rattle.offset_recovery.specs.declared.outcome.WideTiming.{WideTiming}
 use Rattle.offset_recovery.specs.Tests.{product_test, unit_test}
+use Rattle.offset_recovery.specs.ByLink.{ticks_by_link}
 
 -- each product with the number of parts fits
 abbrev pub ProductsFit : Street → List ℚ → Type 0
@@ -51,6 +52,10 @@ patterns_at a x = numbered (count a) 1 (pattern_at a x)
 
 abbrev pub reds_at : Street → List ℚ → List ℕ
 reds_at a x = reds_of a (unit_of a x) (ticks_of a x) (pattern_at a x)
+
+-- the runs of a direction
+abbrev pub runs_at : Street → List ℚ → Dir → List ℕ
+runs_at a x d = ticks_by_link a x (λ i. place (count a) (RunOf d i))
 
 -- the timing before its reds
 abbrev pub out_at : Street → List ℚ → TimingRecord

@@ -5,8 +5,8 @@ ghost use Rattle.narrow_fraction.specs.Attempt.{attempt};
 ghost use Rattle.recovery_theory.specs.Ticks.{unit_of};
 ghost use Rattle.offset_recovery.specs.{Recovered.{line_tests, column_tests}, Numbers.{IsReady}};
 
-use crate::links::{Runs, check_by_link};
 use crate::outcome::WideTiming;
+use crate::runs::check_runs;
 use crate::ticks::{band, check_number, grid};
 use artery_model::{Artery, Dir};
 use loop_rows::{band_column, frequency_column};
@@ -20,8 +20,8 @@ pub fn check_lines(artery: &Artery, point: &Point, unit: u128) -> Result<(), Wid
 {
     let grid = grid(artery, point, unit);
     check_number(frequency_column(artery), grid)?;
-    check_by_link::<Runs>(artery, point, unit, Dir::Outbound)?;
-    check_by_link::<Runs>(artery, point, unit, Dir::Inbound)
+    check_runs(artery, point, unit, Dir::Outbound)?;
+    check_runs(artery, point, unit, Dir::Inbound)
 }
 
 /// Whether bands, frequency and runs fit a timing.

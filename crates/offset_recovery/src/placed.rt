@@ -6,10 +6,10 @@ ghost use Rattle.recovery_theory.specs.Ticks.{unit_of};
 ghost use Rattle.offset_recovery.specs.{Recovered.{line_tests, red_tests, placed_tests}, Numbers.{IsReady, reds_at, base_at}};
 ghost use Rattle.offset_recovery.specs.{Placed.{ArePlaced}, Answers.{Answers}};
 
-use crate::links::{Runs, ticks_by_link};
 use crate::lists::patterns;
 use crate::outcome::RecoverFault;
 use crate::placing::{checked_first_in, checked_first_out, reds};
+use crate::runs::runs;
 use crate::ticks::grid;
 use artery_model::bounds::{LEAST_SIGNALS, MOST_SIGNALS};
 use artery_model::{Artery, Dir};
@@ -52,8 +52,8 @@ pub fn place_lines(
     ensures { Answers (placed_tests artery.now point.now.values.items) (ArePlaced artery.now point.now.values.items) result }
 {
     let patterns = patterns(alloc, artery, point)?;
-    let run_out = ticks_by_link::<Runs>(alloc, artery, point, unit, Dir::Outbound)?;
-    let run_in = ticks_by_link::<Runs>(alloc, artery, point, unit, Dir::Inbound)?;
+    let run_out = runs(alloc, artery, point, unit, Dir::Outbound)?;
+    let run_in = runs(alloc, artery, point, unit, Dir::Inbound)?;
     let first_out = checked_first_out(artery, point, unit)?;
     let reds = match reds(alloc, artery, point, unit, first_out) {
         Ok(reds) => reds,

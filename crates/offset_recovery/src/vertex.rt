@@ -1,74 +1,90 @@
 //! A vertex's timing, or where it splits its box.
 
-ghost use Rattle.std.specs.Prelude.{◌≡◌, ◌<◌, ◌^◌, length, None, IfOk};
-ghost use Rattle.linear_theory.specs.Boxes.{IsBoxOf};
-ghost use Rattle.recovery_theory.specs.{Ticks.{unit_of}, Vertices.{IsVertex, IsWhole}};
-ghost use Rattle.offset_recovery.specs.{Inside.{SplitsInside}, Recovered.{recovered, line_tests, placed_tests, number_tests_by}};
-ghost use Rattle.offset_recovery.specs.{Numbers.{IsReady}, Answers.{Answers, IsRead, IsOutcome, IsSound}};
+ghost use Rattle.std.specs.Prelude.{◌≡◌, ◌<◌, ◌^◌, List, Option, length, None, IfOk};
+ghost use Rattle.rational_theory.specs.Rational.{ℚ};
+ghost use Rattle.progression.specs.Street.{Street};
+ghost use Rattle.linear_theory.specs.Boxes.{Area, IsBoxOf};
+ghost use Rattle.recovery_theory.specs.{Placing.{timing_of}, Ticks.{unit_of}, Vertices.{IsVertex, IsLongVertex, IsWhole}};
+ghost use Rattle.offset_recovery.specs.{declared.outcome.WideTiming.{WideTiming}, Recovered.{recovered, column_tests, placed_tests, box_tests, number_tests_by}};
+ghost use Rattle.offset_recovery.specs.{Numbers.{IsReady}, Placed.{ArePlaced}, Answers.{Answers, IsRead, IsOutcome, IsSound}};
 
-use crate::kinds::BandKind;
+use crate::columns::check_columns;
 use crate::outcome::{RecoverFault, Recovered};
-use crate::placed::place_lines;
+use crate::placed::{Lines, place_lines};
 use crate::splits::{Vertex, split_place};
+use crate::ticks::band;
 use crate::unit::common_unit;
-use artery_model::Artery;
-use loop_rows::Progression;
+use artery_model::{Artery, Dir};
 use named_row::Point;
 use search_box::{SearchBox, law_valid_street};
 use std::alloc::Global;
 use time_space::Timing;
 
-/// The timing of a vertex whose columns fit, where its reds and first crossings fit too.
-fn placed<K: BandKind>(
-    alloc: Global,
-    artery: &Artery,
-    point: &Point,
-    unit: u128,
-) -> Result<K::Timing, RecoverFault>
-    requires known { K.IsKnown artery.now point.now.values.items }
-    requires ready { IsReady artery.now point.now.values.items }
-    requires unit { unit ≡ unit_of artery.now point.now.values.items }
-    requires columns { K.tests artery.now point.now.values.items ≡ None }
-    requires lines { line_tests artery.now point.now.values.items ≡ None }
-    ensures { Answers (placed_tests artery.now point.now.values.items) (λ t. t ≡ K.timing artery.now point.now.values.items) result }
+/// What is read of a vertex that doesn't split its box: the timing, or why there is none.
+pub fn read_timing<T: Drop>(timing: Result<T, RecoverFault>) -> Result<Recovered<T>, RecoverFault>
+    ensures { (a : Street) (box : Area) (x : List ℚ) (columns : Option WideTiming) (t : T) → box_tests a box x ≡ None
+        → Answers (number_tests_by a x columns) (λ s. s ≡ t) timing → IsRead a box x columns t result }
 {
-    match place_lines(alloc, artery, point, unit) {
-        Ok(lines) => Ok(K::around(alloc, artery, point, unit, lines)?),
+    match timing {
+        Ok(timing) => Ok(Recovered::Timing(timing)),
         Err(fault) => Err(fault),
     }
 }
 
-/// The timing of a vertex whose block sums are whole and whose shifts are the signals', where its numbers fit.
-fn timing_of<K: BandKind>(
-    alloc: Global,
-    artery: &Artery,
-    area: &SearchBox,
-    point: &Point,
-) -> Result<K::Timing, RecoverFault>
-    requires vertex { K.IsVertexOf artery.now area.now point.now.values.items }
-    requires whole { IsWhole artery.now point.now.values.items }
-    requires few { length point.now.values.items < 2 ^ 32 }
-    ensures { Answers (number_tests_by artery.now point.now.values.items (K.tests artery.now point.now.values.items)) (λ t. t ≡ K.timing artery.now point.now.values.items) result }
+/// The timing of a vertex's two lines, whose numbers fit, with its bands.
+fn banded(artery: &Artery, point: &Point, unit: u128, lines: Lines) -> Timing
+    requires ready { IsReady artery.now point.now.values.items }
+    requires unit { unit ≡ unit_of artery.now point.now.values.items }
+    requires lines { ArePlaced artery.now point.now.values.items lines }
+    requires columns { column_tests artery.now point.now.values.items ≡ None }
+    requires placed { placed_tests artery.now point.now.values.items ≡ None }
+    ensures { result ≡ timing_of artery.now point.now.values.items }
 {
-    let unit = common_unit(artery, point)?;
-    K::known_numbers(artery, area, point);
-    K::check_kind(artery, point, unit)?;
-    placed::<K>(alloc, artery, point, unit)
+    let band_out = band(artery, point, unit, Dir::Outbound);
+    let band_in = band(artery, point, unit, Dir::Inbound);
+    lines
+        .base
+        .banded(lines.first_out, band_out, lines.first_in, band_in)
 }
 
-/// What becomes of a vertex, whatever the kind of its bands: a timing in whole ticks, or the place where its box is split.
-pub fn read_vertex<K: BandKind>(
+/// The timing of a vertex whose block sums are whole and whose shifts are the signals', where its numbers fit.
+fn timing_of(
     alloc: Global,
     artery: &Artery,
     area: &SearchBox,
     point: &Point,
-) -> Result<Recovered<K::Timing>, RecoverFault>
-    requires boxed { IsBoxOf artery.now area.now }
-    requires inside { SplitsInside artery.now area.now point.now.values.items }
-    requires vertex { K.IsVertexOf artery.now area.now point.now.values.items }
+) -> Result<Timing, RecoverFault>
+    requires vertex { IsLongVertex artery.now area.now point.now.values.items }
+    requires whole { IsWhole artery.now point.now.values.items }
     requires few { length point.now.values.items < 2 ^ 32 }
-    ensures { IsRead artery.now area.now point.now.values.items (K.tests artery.now point.now.values.items) (K.timing artery.now point.now.values.items) result }
+    ensures { Answers (number_tests_by artery.now point.now.values.items (column_tests artery.now point.now.values.items)) (λ t. t ≡ timing_of artery.now point.now.values.items) result }
 {
+    // its contract says that the artery is valid
+    artery.known_valid();
+    law_valid_street();
+    let unit = common_unit(artery, point)?;
+    check_columns(artery, point, unit)?;
+    match place_lines(alloc, artery, point, unit) {
+        Ok(lines) => Ok(banded(artery, point, unit, lines)),
+        Err(fault) => Err(fault),
+    }
+}
+
+/// What is read of a vertex: a timing in whole ticks, or the place where its box is split.
+fn read(
+    alloc: Global,
+    artery: &Artery,
+    area: &SearchBox,
+    point: &Point,
+) -> Result<Recovered<Timing>, RecoverFault>
+    requires boxed { IsBoxOf artery.now area.now }
+    requires vertex { IsLongVertex artery.now area.now point.now.values.items }
+    requires few { length point.now.values.items < 2 ^ 32 }
+    ensures { IsRead artery.now area.now point.now.values.items (column_tests artery.now point.now.values.items) (timing_of artery.now point.now.values.items) result }
+{
+    // its contract says that the artery is valid
+    artery.known_valid();
+    law_valid_street();
     let vertex = Vertex {
         artery,
         area,
@@ -77,10 +93,7 @@ pub fn read_vertex<K: BandKind>(
     if let Some(place) = split_place(&vertex)? {
         return Ok(Recovered::SplitAt(place));
     }
-    match timing_of::<K>(alloc, artery, area, point) {
-        Ok(timing) => Ok(Recovered::Timing(timing)),
-        Err(fault) => Err(fault),
-    }
+    read_timing(timing_of(alloc, artery, area, point))
 }
 
 /// What becomes of a vertex of a box: a timing in whole ticks, which is good and has the vertex's weighted band, or the
@@ -104,5 +117,5 @@ pub fn recover(
     // its contract says that the artery is valid
     artery.known_valid();
     law_valid_street();
-    read_vertex::<Progression>(alloc, artery, area, point)
+    read(alloc, artery, area, point)
 }

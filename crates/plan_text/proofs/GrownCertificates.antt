@@ -9,8 +9,8 @@ use Rattle.plan_text.specs.declared.fault.TextFault.TheVariants.{Ended, Shape, N
 use Rattle.plan_text.specs.declared.fault.BadText.{BadText}
 use Rattle.plan_text.specs.declared.form.LeafForm.{LeafForm}
 use Rattle.plan_text.specs.declared.form.LeafForm.TheVariants.{Over, Plain}
-use Rattle.plan_text.specs.declared.tree.Head.{Head}
-use Rattle.plan_text.specs.declared.tree.Head.TheVariants as heads
+use Rattle.plan_text.specs.declared.tree.NodeHead.{NodeHead}
+use Rattle.plan_text.specs.declared.tree.NodeHead.TheVariants as heads
 use Rattle.certificate_model.specs.declared.certificate.Claim.{Claim}
 use Rattle.certificate_model.specs.declared.certificate.Claim.TheVariants.{Best, NoTiming, Stopped}
 use Rattle.certificate_model.specs.Words.{is_text}
@@ -272,13 +272,13 @@ leaf_grows names form (suc n) last line bytes z e =
 abbrev as_leaf : ℕ → ℕ → List Weight × List ℕ → Result (Node × ℕ × List ℕ) BadText
 as_leaf line count ws = Ok (LeafOf ws.0, line + 1 + count, ws.1)
 
-rest_later : (names : Naming) (head : Head) (last line : ℕ) (bytes : List ℕ) → last < line + 1 → Reaches numbered last (rest_of names head line bytes)
+rest_later : (names : Naming) (head : NodeHead) (last line : ℕ) (bytes : List ℕ) → last < line + 1 → Reaches numbered last (rest_of names head line bytes)
 unfolding rest_of
 rest_later names (heads.Split at) last line bytes here = here
 rest_later names (heads.Leaf count form) last line bytes here =
     reaches_then (one_and (line + 1 + count)) numbered last (leaf_at names form count line bytes) (as_leaf line count) (leaf_later names form count last line bytes here) (λ ws more. more)
 
-rest_grows : (names : Naming) (head : Head) (last line : ℕ) (bytes z : List ℕ) → line + 1 + lines_in bytes ≡ last
+rest_grows : (names : Naming) (head : NodeHead) (last line : ℕ) (bytes z : List ℕ) → line + 1 + lines_in bytes ≡ last
     → Grows numbered last z (rest_of names head line bytes) (rest_of names head line (bytes ++ z))
 unfolding rest_of
 rest_grows names (heads.Split at) last line bytes z e = (e, refl)

@@ -14,8 +14,8 @@ use Rattle.named_row.specs.declared.leaves.Weight.{Weight}
 use Rattle.named_row.specs.declared.names.RowId.{RowId}
 use Rattle.plan_text.specs.declared.form.LeafForm.{LeafForm}
 use Rattle.plan_text.specs.declared.form.LeafForm.TheVariants.{Over, Plain}
-use Rattle.plan_text.specs.declared.tree.Head.{Head}
-use Rattle.plan_text.specs.declared.tree.Head.TheVariants as heads
+use Rattle.plan_text.specs.declared.tree.NodeHead.{NodeHead}
+use Rattle.plan_text.specs.declared.tree.NodeHead.TheVariants as heads
 use Rattle.certificate_model.specs.Words.{is_text, line_of}
 use Rattle.plan_text.specs.Numbers.{number}
 use Rattle.plan_text.specs.Fractions.{integer, exact}
@@ -103,11 +103,11 @@ plain_suits (Named table) = refl
 plain_suits (Listed rows) = tt
 
 -- what a node's first line says, where leaves go by names or by places
-abbrev pub HeadOf : Naming → List (List ℕ) → Head → Type 0
+abbrev pub HeadOf : Naming → List (List ℕ) → NodeHead → Type 0
 HeadOf names ws (heads.Split at) = SplitOf ws at
 HeadOf names ws (heads.Leaf n form) = (ws ≡ first_words names form n) × (n ≤ 10000) × IsFormed form × FormSuits names form
 
-leaf_head : (names : Naming) (line : ℕ) (key n : List ℕ) (h : Head)
+leaf_head : (names : Naming) (line : ℕ) (key n : List ℕ) (h : NodeHead)
     → (if is_text key (fractions_key names) then (leaf_count line n >>= λ count. Ok (heads.Leaf count Plain)) else fault line Shape) ≡ Ok h → HeadOf names (key ∷ n ∷ []) h
 leaf_head names line key n h e =
     let g = guard_ok (is_text key (fractions_key names)) line Shape (leaf_count line n >>= λ count. Ok (heads.Leaf count Plain)) h e in
@@ -116,7 +116,7 @@ leaf_head names line key n h e =
     let k = same_text key (fractions_key names) g.0 in
     moved (HeadOf names (key ∷ n ∷ [])) (heads.Leaf a.0 Plain) h a.2 ((λ j. k j ∷ t.0 j ∷ []), t.1.greatest, tt, plain_suits names)
 
-over_takes : (names : Naming) (line : ℕ) (key d n : List ℕ) (h : Head) → over_head names line key d n ≡ Ok h → HeadOf names (key ∷ d ∷ n ∷ []) h
+over_takes : (names : Naming) (line : ℕ) (key d n : List ℕ) (h : NodeHead) → over_head names line key d n ≡ Ok h → HeadOf names (key ∷ d ∷ n ∷ []) h
 unfolding over_head
 over_takes (Named table) line key d n h e = absurd cc
 over_takes (Listed rows) line key d n h e =
@@ -128,7 +128,7 @@ over_takes (Listed rows) line key d n h e =
     let k = same_text key leaf_key g.0 in
     moved (HeadOf (Listed rows) (key ∷ d ∷ n ∷ [])) (heads.Leaf b.0 (Over a.0)) h b.2 ((λ j. k j ∷ f.spelled j ∷ t.0 j ∷ []), t.1.greatest, f.formed, tt)
 
-split_head : (names : Naming) (line : ℕ) (key kind i place : List ℕ) (h : Head)
+split_head : (names : Naming) (line : ℕ) (key kind i place : List ℕ) (h : NodeHead)
     → (if is_text key split_key then (split_of line kind i place >>= λ at. Ok (heads.Split at)) else fault line Shape) ≡ Ok h → HeadOf names (key ∷ kind ∷ i ∷ place ∷ []) h
 split_head names line key kind i place h e =
     let g = guard_ok (is_text key split_key) line Shape (split_of line kind i place >>= λ at. Ok (heads.Split at)) h e in
@@ -136,7 +136,7 @@ split_head names line key kind i place h e =
     moved (HeadOf names (key ∷ kind ∷ i ∷ place ∷ [])) (heads.Split a.0) h a.2
     (subst (λ (k : List ℕ). SplitOf (k ∷ kind ∷ i ∷ place ∷ []) a.0) (sym (same_text key split_key g.0)) (split_takes line kind i place a.0 a.1))
 
-pub head_takes : (names : Naming) (line : ℕ) (ws : List (List ℕ)) (h : Head) → head_of names line ws ≡ Ok h → HeadOf names ws h
+pub head_takes : (names : Naming) (line : ℕ) (ws : List (List ℕ)) (h : NodeHead) → head_of names line ws ≡ Ok h → HeadOf names ws h
 unfolding head_of
 head_takes names line [] h e = absurd cc
 head_takes names line (a ∷ []) h e = absurd cc
@@ -189,7 +189,8 @@ pub record NodeLengths (line : ℕ) (bytes : List ℕ) (x : Node × ℕ × List 
   pub shorter : length x.2 < length bytes
   pub lines : x.1 + length x.2 ≤ line + length bytes
 
-rest_lengths : (names : Naming) (line : ℕ) (bytes after : List ℕ) (h : Head) (x : Node × ℕ × List ℕ) → length after + 1 ≤ length bytes → rest_of names h line after ≡ Ok x → NodeLengths line bytes x
+rest_lengths : (names : Naming) (line : ℕ) (bytes after : List ℕ) (h : NodeHead) (x : Node × ℕ × List ℕ) → length after + 1 ≤ length bytes
+    → rest_of names h line after ≡ Ok x → NodeLengths line bytes x
 unfolding rest_of
 rest_lengths names line bytes after (heads.Split at) x shorter e = moved (NodeLengths line bytes) (SplitAt at, line + 1, after) x e (record { shorter = omega arith; lines = omega arith })
 rest_lengths names line bytes after (heads.Leaf n form) x shorter e =
@@ -241,7 +242,7 @@ leaf_parts : (names : Naming) (form : LeafForm) (ws : List Weight) → FormSuits
 leaf_parts (Named table) form ws suits e = suits
 leaf_parts (Listed rows) form ws suits e = sym (same_form_is (form_of ws) form e)
 
-node_from : (names : Naming) (table : Table) (line : ℕ) (bytes : List ℕ) (ws : List (List ℕ)) (after : List ℕ) (h : Head) (x : Node × ℕ × List ℕ)
+node_from : (names : Naming) (table : Table) (line : ℕ) (bytes : List ℕ) (ws : List (List ℕ)) (after : List ℕ) (h : NodeHead) (x : Node × ℕ × List ℕ)
     → IsOver names table → bytes ≡ line_of ws ++ 10 ∷ after → HeadOf names ws h → rest_of names h line after ≡ Ok x → NodeOf names table bytes x
 unfolding rest_of node_lines
 node_from names table line bytes ws after (heads.Split at) x over parts h e =

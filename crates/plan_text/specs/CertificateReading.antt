@@ -8,8 +8,8 @@ use Rattle.search_box.specs.declared.span.At.TheVariants.{Loop, Turn}
 use Rattle.plan_text.specs.declared.fault.TextFault.TheVariants.{Ended, Shape, Number, Order}
 use Rattle.plan_text.specs.declared.fault.BadText.{BadText}
 use Rattle.plan_text.specs.declared.lines.NumberLine.{NumberLine}
-use Rattle.plan_text.specs.declared.tree.Head.{Head}
-use Rattle.plan_text.specs.declared.tree.Head.TheVariants as heads
+use Rattle.plan_text.specs.declared.tree.NodeHead.{NodeHead}
+use Rattle.plan_text.specs.declared.tree.NodeHead.TheVariants as heads
 use Rattle.certificate_model.specs.declared.certificate.Claim.{Claim}
 use Rattle.certificate_model.specs.declared.certificate.Claim.TheVariants.{Best, NoTiming, Stopped}
 use Rattle.plan_text.specs.declared.form.LeafForm.{LeafForm}
@@ -171,19 +171,19 @@ above_zero None = None
 above_zero (Some x) = if (x.den == 1) && int_lt (pos 0) x.num then Some (unsigned_abs x.num) else None
 
 -- a leaf with so many rows, whose multipliers are whole numbers over a denominator
-unfoldable pub over_head : Naming → ℕ → List ℕ → List ℕ → List ℕ → Result Head BadText
+unfoldable pub over_head : Naming → ℕ → List ℕ → List ℕ → List ℕ → Result NodeHead BadText
 over_head (Named table) line key d n = fault line Shape
 over_head (Listed rows) line key d n =
     if is_text key leaf_key then (or_number line (above_zero (exact d)) >>= λ denominator. leaf_count line n >>= λ count. Ok (heads.Leaf count (Over denominator))) else fault line Shape
 
 -- a split, or a leaf with so many rows
-unfoldable pub head_of : Naming → ℕ → List (List ℕ) → Result Head BadText
+unfoldable pub head_of : Naming → ℕ → List (List ℕ) → Result NodeHead BadText
 head_of names line (key ∷ n ∷ []) = if is_text key (fractions_key names) then (leaf_count line n >>= λ count. Ok (heads.Leaf count Plain)) else fault line Shape
 head_of names line (key ∷ d ∷ n ∷ []) = over_head names line key d n
 head_of names line (key ∷ kind ∷ i ∷ place ∷ []) = if is_text key split_key then (split_of line kind i place >>= λ at. Ok (heads.Split at)) else fault line Shape
 head_of names line ws = fault line Shape
 
-abbrev pub IsHead : Head → Type 0
+abbrev pub IsHead : NodeHead → Type 0
 IsHead (heads.Split at) = Unit {0}
 IsHead (heads.Leaf count form) = IsFormed form
 
@@ -211,7 +211,7 @@ leaf_at names form count line bytes =
       Ok (all, l.1))
 
 -- the node that begins so at this line, the number of the line after it, and what follows
-unfoldable pub rest_of : Naming → Head → ℕ → List ℕ → Result (Node × ℕ × List ℕ) BadText
+unfoldable pub rest_of : Naming → NodeHead → ℕ → List ℕ → Result (Node × ℕ × List ℕ) BadText
 rest_of names (heads.Split at) line bytes = Ok (SplitAt at, line + 1, bytes)
 rest_of names (heads.Leaf count form) line bytes = do
   ws ← leaf_at names form count line bytes

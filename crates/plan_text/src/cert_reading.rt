@@ -5,12 +5,12 @@ ghost use Rattle.plan_text.specs.{Lines.{Gives}, FirstText.{certificate_text}, S
 ghost use Rattle.certificate_model.specs.{Families.{ordinary}, Warrants.{Warrant, warrant_of}};
 ghost use Rattle.plan_text.specs.CertificateReading.{rows_at, first_of, second_of, certificate_of, headed_of};
 
-use crate::claim::{Parts, claim_at};
+use crate::claim::{ClaimParts, claim_at};
 use crate::fault::{TextEnd, TextFault};
+use crate::kind::CertificateKind;
 use crate::lines::{bad, fixed_at, line_at};
 use crate::naming::Naming;
 use crate::row_list::rows_at;
-use crate::timing_text::{OneBand, TimingKind};
 use crate::tree::tree_at;
 use certificate_model::{Certificate, FAMILIES};
 use named_row::RowId;
@@ -33,7 +33,10 @@ fn ordinary_rows_at(
 
 /// What follows the first line of a certificate that names its rows.
 #[tactic(auto, unfolding(crate::specs::CertificateReading::first_of))]
-fn first_of<K: TimingKind>(alloc: Global, bytes: &[u8]) -> Result<Parts<K::Timing>, TextEnd>
+fn first_of<K: CertificateKind>(
+    alloc: Global,
+    bytes: &[u8],
+) -> Result<ClaimParts<K::Timing>, TextEnd>
     ensures { Gives (λ p. warrant_of p.claim p.timing p.nodes.items) result (first_of K.text K.table bytes.now) }
 {
     let opening = claim_at::<K>(alloc, bytes)?;
@@ -43,10 +46,10 @@ fn first_of<K: TimingKind>(alloc: Global, bytes: &[u8]) -> Result<Parts<K::Timin
 
 /// What follows the first line of a certificate that lists its rows.
 #[tactic(auto, unfolding(crate::specs::CertificateReading::second_of))]
-fn second_of(alloc: Global, bytes: &[u8]) -> Result<Parts<Timing>, TextEnd>
+fn second_of(alloc: Global, bytes: &[u8]) -> Result<ClaimParts<Timing>, TextEnd>
     ensures { Gives (λ p. warrant_of p.claim p.timing p.nodes.items) result (second_of bytes.now) }
 {
-    let opening = claim_at::<OneBand>(alloc, bytes)?;
+    let opening = claim_at::<Certificate>(alloc, bytes)?;
     let (rows, line, rest) = ordinary_rows_at(alloc, opening.line, opening.rest)?;
     let nodes = tree_at(alloc, Naming::Listed(rows.as_slice()), line, rest)?;
     Ok(opening.and_nodes(nodes))
@@ -54,12 +57,12 @@ fn second_of(alloc: Global, bytes: &[u8]) -> Result<Parts<Timing>, TextEnd>
 
 /// The parts of an ordinary certificate, which has either text.
 #[tactic(auto, unfolding(crate::specs::CertificateReading::certificate_of))]
-fn parts_of(alloc: Global, bytes: &[u8]) -> Result<Parts<Timing>, TextEnd>
+fn parts_of(alloc: Global, bytes: &[u8]) -> Result<ClaimParts<Timing>, TextEnd>
     ensures { Gives (λ p. warrant_of p.claim p.timing p.nodes.items) result (certificate_of bytes.now) }
 {
     let (first, rest) = line_at(1, bytes)?;
     if first == b"maxband-certificate 1".as_slice() {
-        first_of::<OneBand>(alloc, rest)
+        first_of::<Certificate>(alloc, rest)
     } else if first == b"maxband-certificate 2".as_slice() {
         second_of(alloc, rest)
     } else {
@@ -80,11 +83,11 @@ fn certificate_of(alloc: Global, bytes: &[u8]) -> Result<Certificate, TextEnd>
 
 /// The parts of a certificate of a kind that names its rows, which has one text, with this first line.
 #[tactic(auto, unfolding(crate::specs::CertificateReading::headed_of))]
-pub fn headed_at<K: TimingKind>(
+pub fn headed_at<K: CertificateKind>(
     alloc: Global,
     head: &[u8],
     bytes: &[u8],
-) -> Result<Parts<K::Timing>, TextEnd>
+) -> Result<ClaimParts<K::Timing>, TextEnd>
     ensures { Gives (λ p. warrant_of p.claim p.timing p.nodes.items) result (headed_of K.text K.table head.now bytes.now) }
 {
     let rest = fixed_at(1, head, bytes)?;

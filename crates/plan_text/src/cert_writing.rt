@@ -8,7 +8,7 @@ ghost use Rattle.certificate_model.specs.Warrants.{SplitAt, warrant_of, HasTimin
 ghost use Rattle.plan_text.specs.{Spelling.{ended}, FirstText.{first_text, certificate_text}, CertificateReading.{certificate_of}};
 ghost use Rattle.plan_text.specs.CertificateText.{fraction_words, split_words, timing_part, claim_lines, IsHeldClaim, IsHeldTiming, IsHeldNode, IsHeldWith};
 
-use crate::timing_text::{OneBand, TimingKind};
+use crate::kind::CertificateKind;
 use crate::writing::push_spaced;
 use certificate_model::{CertNode, Certificate, Claim, FamilyName, family_name_in, is_lone_in};
 use named_row::RowId;
@@ -91,7 +91,10 @@ pub(crate) fn push_split(out: &mut Vec<u8>, place: At) -> Result<(), Memory>
 }
 
 /// Writes the lines of a timing, if there is one.
-fn push_timing<K: TimingKind>(out: &mut Vec<u8>, timing: &Option<K::Timing>) -> Result<(), Memory>
+fn push_timing<K: CertificateKind>(
+    out: &mut Vec<u8>,
+    timing: &Option<K::Timing>,
+) -> Result<(), Memory>
     ensures text { OnOk result (out.new.items ≡ out.old.items ++ ended (timing_part K.text timing.now)) }
     ensures held { OnOk result (IsHeldTiming K.text timing.now) }
 {
@@ -103,7 +106,7 @@ fn push_timing<K: TimingKind>(out: &mut Vec<u8>, timing: &Option<K::Timing>) -> 
 
 /// Writes the lines of a claim and its timing, from the second line of a certificate on.
 #[tactic(auto, unfolding(crate::specs::CertificateText::claim_lines))]
-pub fn push_claim<K: TimingKind>(
+pub fn push_claim<K: CertificateKind>(
     out: &mut Vec<u8>,
     claim: &Claim,
     timing: &Option<K::Timing>,
@@ -135,7 +138,7 @@ pub fn push_claim<K: TimingKind>(
 }
 
 /// The text of a certificate of a kind, with this first line and the rows named in each leaf.
-pub fn write_named<K: TimingKind>(
+pub fn write_named<K: CertificateKind>(
     alloc: Global,
     head: &[u8],
     claim: &Claim,
@@ -158,7 +161,7 @@ pub fn write_certificate(alloc: Global, certificate: &Certificate) -> Result<Vec
     ensures text { IfOk result (λ v. v.items ≡ certificate_text certificate.now) }
     ensures read_back { IfOk result (λ v. certificate_of v.items ≡ Ok certificate.now) }
 {
-    write_named::<OneBand>(
+    write_named::<Certificate>(
         alloc,
         b"maxband-certificate 1",
         &certificate.claim,

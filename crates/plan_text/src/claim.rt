@@ -7,8 +7,8 @@ ghost use Rattle.plan_text.specs.CertificateReading.{begins_with, claim_with, va
 
 use crate::fault::{TextEnd, TextFault};
 use crate::fraction::fraction_of;
+use crate::kind::CertificateKind;
 use crate::lines::{bad, fixed_at, line_at, words_at};
-use crate::timing_text::TimingKind;
 use certificate_model::{CertNode, Claim};
 use narrow_fraction::Frac;
 use std::alloc::Global;
@@ -24,7 +24,7 @@ pub struct Beginning<'a, T> {
 
 /// A claim with its timing and its tree.
 #[derive(Drop)]
-pub struct Parts<T> {
+pub struct ClaimParts<T> {
     pub claim: Claim,
     pub timing: Option<T>,
     pub nodes: Vec<CertNode>,
@@ -32,10 +32,10 @@ pub struct Parts<T> {
 
 impl<T: Drop> Beginning<'_, T> {
     /// The claim and its timing with the nodes of their tree.
-    pub(crate) fn and_nodes(self, nodes: Vec<CertNode>) -> Parts<T>
+    pub(crate) fn and_nodes(self, nodes: Vec<CertNode>) -> ClaimParts<T>
         ensures { warrant_of result.claim result.timing result.nodes.items ≡ warrant_of self.entry.claim self.entry.timing nodes.items }
     {
-        Parts {
+        ClaimParts {
             claim: self.claim,
             timing: self.timing,
             nodes,
@@ -57,7 +57,7 @@ fn claim_with(bound: Option<Frac>, value: Frac) -> Claim
 }
 
 /// The value in the words of this line, and its timing in the lines after it.
-fn valued_at<'a, K: TimingKind>(
+fn valued_at<'a, K: CertificateKind>(
     alloc: Global,
     bound: Option<Frac>,
     line: u64,
@@ -89,7 +89,10 @@ fn begins_with(key: &[u8], words: &[&[u8]]) -> bool
 
 /// What follows the bound where none was found.
 #[tactic(auto, unfolding(crate::specs::CertificateReading::missing_at))]
-fn missing_at<K: TimingKind>(bound: Frac, bytes: &[u8]) -> Result<Beginning<'_, K::Timing>, TextEnd>
+fn missing_at<K: CertificateKind>(
+    bound: Frac,
+    bytes: &[u8],
+) -> Result<Beginning<'_, K::Timing>, TextEnd>
     ensures exact { Gives (λ x. (x.claim, x.timing, x.line, x.rest.now)) result (missing_at bound bytes.now) }
     ensures line { IfOk result (λ x. x.line ≤ 21) }
 {
@@ -105,7 +108,10 @@ fn missing_at<K: TimingKind>(bound: Frac, bytes: &[u8]) -> Result<Beginning<'_, 
 
 /// What follows `verdict open`.
 #[tactic(auto, unfolding(crate::specs::CertificateReading::open_at, crate::specs::CertificateReading::found_at))]
-fn open_at<K: TimingKind>(alloc: Global, bytes: &[u8]) -> Result<Beginning<'_, K::Timing>, TextEnd>
+fn open_at<K: CertificateKind>(
+    alloc: Global,
+    bytes: &[u8],
+) -> Result<Beginning<'_, K::Timing>, TextEnd>
     ensures exact { Gives (λ x. (x.claim, x.timing, x.line, x.rest.now)) result (open_at K.text bytes.now) }
     ensures line { IfOk result (λ x. x.line ≤ 21) }
 {
@@ -121,7 +127,7 @@ fn open_at<K: TimingKind>(alloc: Global, bytes: &[u8]) -> Result<Beginning<'_, K
 
 /// What follows the verdict.
 #[tactic(auto, unfolding(crate::specs::CertificateReading::verdict_of, crate::specs::CertificateReading::best_at))]
-fn verdict_of<'a, K: TimingKind>(
+fn verdict_of<'a, K: CertificateKind>(
     alloc: Global,
     verdict: &[u8],
     bytes: &'a [u8],
@@ -148,7 +154,7 @@ fn verdict_of<'a, K: TimingKind>(
 
 /// The claim of a certificate and its timing, from the second line on.
 #[tactic(auto, unfolding(crate::specs::CertificateReading::claim_at))]
-pub fn claim_at<K: TimingKind>(
+pub fn claim_at<K: CertificateKind>(
     alloc: Global,
     bytes: &[u8],
 ) -> Result<Beginning<'_, K::Timing>, TextEnd>

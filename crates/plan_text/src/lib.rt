@@ -6,7 +6,7 @@
 //! `specs/SecondText` have their texts, and `specs/Lines`, `specs/Reading` and `specs/CertificateReading` say which fault
 //! comes at which line. Start with `read_timing` and `read_certificate`.
 //!
-//! For certificates with another kind of timing or with other rows: `TimingKind` is such a kind, `headed_at` and `write_named`
+//! For certificates with another kind of timing or with other rows: such a type is a `CertificateKind`, `headed_at` and `write_named`
 //! read and write its certificates, and `tree_at` and `push_tree` a tree with its rows over a table of families.
 //!
 //! `read_timing` answers a timing exactly where the bytes are its text (`found`, `only`), and otherwise the first bad line with the
@@ -36,6 +36,7 @@ mod family;
 mod fault;
 mod form;
 mod fraction;
+mod kind;
 mod laws;
 mod leaf;
 mod lines;
@@ -46,7 +47,6 @@ mod reading;
 mod row;
 mod row_list;
 mod second_writing;
-mod timing_text;
 mod tree;
 mod tree_writing;
 mod writing;
@@ -56,15 +56,15 @@ pub use cert_writing::{write_certificate, write_named};
 pub use certificate_model::{
     CertNode, Certificate, Claim, FAMILIES, FamilyName, family_name_in, is_lone, is_lone_in,
 };
-pub use claim::Parts;
+pub use claim::ClaimParts;
 pub use divisor_law::law_divisor_rule;
 pub use fault::{BadText, TextEnd, TextFault};
+pub use kind::CertificateKind;
 pub use laws::{law_first_bad, law_one_text, law_reads_back};
 pub use naming::Naming;
 pub use numeral::{is_numeral, number};
 pub use reading::{BothWays, base_at, both_ways_at, pair_at, read_timing};
 pub use second_writing::write_second;
-pub use timing_text::{OneBand, TimingKind};
 pub use tree::tree_at;
 pub use tree_writing::push_tree;
 pub use writing::{push_base, push_firsts, push_numbers, write_timing};

@@ -7,7 +7,6 @@ ghost use Rattle.certificate_model.specs.Families.{IsNamed};
 use crate::cert_writing::{push_claim, push_line, push_name};
 use crate::listed::rows_of;
 use crate::naming::Naming;
-use crate::timing_text::OneBand;
 use crate::tree_writing::{push_count, push_tree};
 use certificate_model::{Certificate, FAMILIES};
 use named_row::RowId;
@@ -54,7 +53,7 @@ pub fn write_second(alloc: Global, certificate: &Certificate) -> Result<Vec<u8>,
     let rows = rows_of(alloc, certificate.nodes.as_slice())?;
     let mut out = Vec::new(alloc);
     push_line(&mut out, b"maxband-certificate 2")?;
-    push_claim::<OneBand>(&mut out, &certificate.claim, &certificate.timing)?;
+    push_claim::<Certificate>(&mut out, &certificate.claim, &certificate.timing)?;
     push_rows(&mut out, rows.as_slice())?;
     push_tree(
         &mut out,

@@ -24,7 +24,7 @@ const MOST_ROWS: u32 = 10_000;
 
 /// What the first line of a node says: a split, or a leaf with so many rows, whose multipliers have this form.
 #[derive(Clone, Copy)]
-enum Head {
+enum NodeHead {
     Split(At),
     Leaf(u32, LeafForm),
 }
@@ -65,7 +65,7 @@ fn over_head(
     key: &[u8],
     bottom: &[u8],
     count: &[u8],
-) -> Result<Head, TextEnd>
+) -> Result<NodeHead, TextEnd>
     ensures exact { Gives (λ x. x) result (over_head (naming_of names.entry) line key.now bottom.now count.now) }
     ensures formed { IfOk result IsHead }
 {
@@ -73,7 +73,7 @@ fn over_head(
         Naming::Listed(_) if key == b"leaf".as_slice() => {
             let bottom = denominator(line, bottom)?;
             let count = small(line, 0, MOST_ROWS, count)?;
-            Ok(Head::Leaf(count, LeafForm::Over(bottom)))
+            Ok(NodeHead::Leaf(count, LeafForm::Over(bottom)))
         }
         _ => Err(bad(line, TextFault::Shape)),
     }
@@ -81,19 +81,19 @@ fn over_head(
 
 /// What the words of a node's first line say.
 #[tactic(auto, unfolding(crate::specs::CertificateReading::head_of))]
-fn head_of(names: Naming, line: u64, words: &[&[u8]]) -> Result<Head, TextEnd>
+fn head_of(names: Naming, line: u64, words: &[&[u8]]) -> Result<NodeHead, TextEnd>
     ensures exact { Gives (λ x. x) result (head_of (naming_of names.entry) line (map (λ w. w.now) words.now)) }
     ensures formed { IfOk result IsHead }
 {
     match words {
         [key, count] if *key == fractions_key(names) => {
             let count = small(line, 0, MOST_ROWS, count)?;
-            Ok(Head::Leaf(count, LeafForm::Plain))
+            Ok(NodeHead::Leaf(count, LeafForm::Plain))
         }
         [key, bottom, count] => over_head(names, line, key, bottom, count),
         [key, kind, index, place] if *key == b"split".as_slice() => {
             let at = split_of(line, kind, index, place)?;
-            Ok(Head::Split(at))
+            Ok(NodeHead::Split(at))
         }
         _ => Err(bad(line, TextFault::Shape)),
     }
@@ -104,7 +104,7 @@ fn head_of(names: Naming, line: u64, words: &[&[u8]]) -> Result<Head, TextEnd>
 fn rest_of<'a>(
     alloc: Global,
     names: Naming,
-    head: Head,
+    head: NodeHead,
     line: u64,
     bytes: &'a [u8],
 ) -> Result<(CertNode, u64, &'a [u8]), TextEnd>
@@ -114,8 +114,8 @@ fn rest_of<'a>(
     ensures { Gives (λ x. (node_of x.0, x.1, x.2.now)) result (rest_of (naming_of names.entry) head line bytes.now) }
 {
     match head {
-        Head::Split(at) => Ok((CertNode::Split(at), line + 1, bytes)),
-        Head::Leaf(count, form) => {
+        NodeHead::Split(at) => Ok((CertNode::Split(at), line + 1, bytes)),
+        NodeHead::Leaf(count, form) => {
             let (multipliers, rest) = leaf_at(alloc, names, form, count, line, bytes)?;
             let node = CertNode::Leaf(Leaf { multipliers });
             Ok((node, line + 1 + count as u64, rest))

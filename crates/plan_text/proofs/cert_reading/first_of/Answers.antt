@@ -6,6 +6,6 @@ use Rattle.plan_text.proofs.cert_reading.first_of.Goals as goal
 pub returns : goal.returns
 returns g c =
     let o = c.in_ok-opening.opening in
-    first_read g.K.TimingKind.text g.K.TimingKind.table c.args.bytes.now (o.claim, o.timing, o.line, o.rest.now) (map node_of c.in_ok-nodes.nodes.items)
+    first_read g.K.CertificateKind.text g.K.CertificateKind.table c.args.bytes.now (o.claim, o.timing, o.line, o.rest.now) (map node_of c.in_ok-nodes.nodes.items)
     c.in_ok-opening.ensures.exact c.in_ok-nodes.ensures
     ∙ ap Ok (sym c.and_nodes.ensures)

@@ -16,7 +16,7 @@ returns g c =
     let w = warrant_of a.claim.now a.timing.now a.nodes.now in
     let first = c.in_ok-push_line.ensures ∙ ap (λ (y : List ℕ). y ++ ended (a.head.now ∷ [])) c.new-out.ensures.items in
     record {
-      text = first_written g.K.TimingKind.text g.K.TimingKind.table a.head.now c.push_line.new.out.items c.push_claim.new.out.items c.push_named_tree.new.out.items
+      text = first_written g.K.CertificateKind.text g.K.CertificateKind.table a.head.now c.push_line.new.out.items c.push_claim.new.out.items c.push_named_tree.new.out.items
           w first c.in_ok-push_claim.ensures.text c.in_ok-push_named_tree.ensures.text;
       held = record { kept = c.requires; claim = c.in_ok-push_claim.ensures.claim; timing = c.in_ok-push_claim.ensures.timing; nodes = c.in_ok-push_named_tree.ensures.held };
     }

@@ -1,6 +1,6 @@
 use Rattle.std.proofs.Common.{◌<◌, ◌^◌, sym, subst}
 use Rattle.offset_recovery.proofs.Making.{columns_fit, firsts_fit}
-use Rattle.offset_recovery.proofs.kinds.ProgressionBandKind.around.Goals as goal
+use Rattle.offset_recovery.proofs.vertex.banded.Goals as goal
 
 pub banded-requires-clause-first_out : goal.banded-requires-clause-first_out
 banded-requires-clause-first_out c =

@@ -4,7 +4,7 @@ use Rattle.plan_text.proofs.Timings.{first_is_held}
 use Rattle.plan_text.proofs.Written.{one_more, more_lines}
 use Rattle.link_space.specs.LinkTiming.{AreHalves}
 use Rattle.link_proof.specs.LinkTimingTexts.{half_out_key, half_in_key}
-use Rattle.link_proof.proofs.timing_text.LinkBandsTimingKind.push_timing.Goals as goal
+use Rattle.link_proof.proofs.timing_text.LinkCertificateCertificateKind.push_timing.Goals as goal
 
 pub returns-clause-text : goal.returns-clause-text
 returns-clause-text c =

@@ -1,4 +1,4 @@
-//! The timings of certificates.
+//! Kinds of certificates: what their timings are, and of which rows their trees are.
 
 ghost use Rattle.std.specs.Prelude.{◌≡◌, ◌≤◌, ◌<◌, ◌+◌, ◌++◌, ◌^◌, All, map, OnOk};
 ghost use Rattle.plan_text.specs.{Lines.{Gives}, Spelling.{ended}, TimingTexts.{TimingText, one_band}, CertificateText.{IsHeldNode}};
@@ -11,22 +11,23 @@ use crate::reading::timing_at;
 use crate::tree::tree_at;
 use crate::tree_writing::push_tree;
 use crate::writing::push_timing;
-use certificate_model::{CertNode, FAMILIES};
+use certificate_model::{CertNode, Certificate, FAMILIES};
 use narrow_fraction::Memory;
 use std::alloc::Global;
 use time_space::Timing;
 
-/// A kind of timing, as certificates have them in their texts.
-pub trait TimingKind {
+/// A kind of certificate, as it is spelled.
+pub trait CertificateKind {
+    /// The timings that are claimed.
     type Timing: Drop;
 
     /// How one is spelled.
     ghost text: { TimingText Self.Timing };
 
-    /// The families whose rows the certificates with such timings name.
+    /// The families whose rows are named.
     ghost table: { Table };
 
-    /// How many lines one takes.
+    /// How many lines a timing takes.
     fn height() -> u64
         ensures value { result ≡ text.height }
         ensures most { result ≤ 16 };
@@ -53,10 +54,7 @@ pub trait TimingKind {
         ensures held { OnOk result (All IsHeldNode (map node_of nodes.now)) };
 }
 
-/// Timings with one band a direction.
-pub struct OneBand;
-
-impl TimingKind for OneBand {
+impl CertificateKind for Certificate {
     type Timing = Timing;
 
     ghost text = { one_band };

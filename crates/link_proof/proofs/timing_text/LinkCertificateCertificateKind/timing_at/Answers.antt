@@ -1,6 +1,6 @@
 use Rattle.std.proofs.Common.{◌+◌}
 use Rattle.link_proof.proofs.LinkTimings.{halves_read}
-use Rattle.link_proof.proofs.timing_text.LinkBandsTimingKind.timing_at.Goals as goal
+use Rattle.link_proof.proofs.timing_text.LinkCertificateCertificateKind.timing_at.Goals as goal
 
 pub around-timing-requires-clause-half_out : goal.around-timing-requires-clause-half_out
 around-timing-requires-clause-half_out c =
