@@ -10,10 +10,10 @@ use Rattle.offset_recovery.specs.Recovered.{recovered}
 use Rattle.branch_and_bound.specs.Lines.{BoxLine}
 use Rattle.branch_tree.specs.ArteryProgram.{program_of}
 use Rattle.branch_tree.specs.ArteryRules.{meaning_of}
-use Rattle.branch_tree.specs.Ends.{end_move, end_point}
-use Rattle.branch_tree.specs.Meaning.{EndsProve}
+use Rattle.box_search.specs.Ends.{end_move, end_point}
+use Rattle.box_search.specs.Meaning.{EndsProve}
 use Rattle.branch_tree.specs.laws.BoxLaws.{reads_good}
-use Rattle.branch_tree.proofs.GivenTimings.{only_gives}
+use Rattle.box_search.proofs.GivenTimings.{only_gives}
 use Rattle.branch_tree.specs.laws.EndLaws.{optimal_end}
 use Rattle.branch_tree.proofs.BoxProofs.{end_covers, end_refutes}
 use Rattle.branch_tree.proofs.LeafFaults.{proof_free}

@@ -9,7 +9,7 @@ use Rattle.certificate_checker.specs.Accepted.{IsProof}
 use Rattle.branch_and_bound.specs.Lines.{BoxLine}
 use Rattle.branch_and_bound.specs.Lineages.{Empty, IsOptimal}
 use Rattle.branch_tree.specs.ArteryProgram.{program_of}
-use Rattle.branch_tree.specs.Ends.{end_bound, end_leaf, ending_of}
+use Rattle.box_search.specs.Ends.{end_bound, end_leaf, ending_of}
 use Rattle.branch_tree.specs.Starts.{start_leaf, start_bound}
 use Rattle.branch_tree.proofs.StartLaws.{start_good}
 use Rattle.branch_tree.proofs.StartFits.{start_fits}

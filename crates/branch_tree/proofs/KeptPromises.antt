@@ -1,12 +1,14 @@
 -- The ends of lines of boxes keep what they promise.
 use Rattle.std.proofs.Common.{ap}
 use Rattle.search_box.proofs.Parts.{parts_of}
-use Rattle.branch_tree.specs.ArteryProgram.{outcome_of, program_of}
+use Rattle.box_search.specs.VertexOutcomes.{outcome_of}
+use Rattle.branch_tree.specs.ArteryProgram.{program_of}
 use Rattle.branch_tree.specs.Promises.{BoxesEnd}
 use Rattle.branch_tree.specs.laws.BoxLaws as laws
-use Rattle.branch_tree.specs.laws.RunLaws as runs
-use Rattle.branch_tree.proofs.Runs.{due_before, one_site, wide_sum_optimal, wide_vertex}
-use Rattle.branch_tree.proofs.Units.{steps_few, boxes_short}
+use Rattle.box_search.specs.laws.RunLaws as runs
+use Rattle.box_search.proofs.Runs.{due_before, one_site, wide_sum_optimal, wide_vertex}
+use Rattle.box_search.proofs.Units.{steps_few}
+use Rattle.branch_tree.proofs.Units.{boxes_short}
 use Rattle.branch_tree.proofs.BoxProofs.{start_covers}
 
 pub boxes_end : BoxesEnd

@@ -1,24 +1,21 @@
 -- The timings of an artery are a kind that can be sought.
-use Rattle.std.proofs.Common.{◌≡◌, ℕ, [], ◌∷◌, Option, Some, None, subst, sym}
+use Rattle.std.proofs.Common.{◌≡◌, ℕ, [], ◌∷◌, subst, sym}
 use Rattle.progression.specs.Street.{Street}
-use Rattle.progression.specs.TimingRecord.{TimingRecord}
 use Rattle.artery_model.specs.Valid.{IsValid}
 use Rattle.linear_theory.specs.Boxes.{IsBoxOf, root_box}
 use Rattle.certificate_model.specs.Warrants.{LeafOf, Warrant}
 use Rattle.certificate_model.proofs.KeptNodes.{IsNode}
-use Rattle.certificate_model.specs.declared.certificate.Claim.{Claim}
-use Rattle.certificate_model.specs.declared.certificate.Claim.TheVariants.{Best, NoTiming, Stopped}
 use Rattle.named_row.specs.declared.leaves.Leaf.{Leaf}
 use Rattle.certificate_checker.specs.Accepted.{value_of, limit_of, IsTimed, IsBoundAbove, AreProofs, IsAccepted}
 use Rattle.branch_and_bound.specs.Answer.{IsSite}
 use Rattle.branch_and_bound.specs.Lines.{BoxLine}
 use Rattle.branch_and_bound.specs.Rules.{IsMet}
 use Rattle.branch_and_bound.specs.declared.found.Site.{Site}
-use Rattle.branch_tree.specs.declared.site.SitePart.{SitePart}
+use Rattle.box_search.specs.declared.site.SitePart.{SitePart}
 use Rattle.branch_tree.specs.ArteryProgram.{program_of}
 use Rattle.branch_tree.specs.ArteryRules.{rules_of}
-use Rattle.branch_tree.specs.Ends.{end_leaf}
-use Rattle.branch_tree.specs.Kinds.{CanBeSought}
+use Rattle.box_search.specs.Ends.{end_leaf}
+use Rattle.box_search.specs.Kinds.{CanBeSought}
 use Rattle.branch_tree.specs.Relaxed.{IsStartLeaf}
 use Rattle.branch_tree.specs.SiteNames.{IsSiteOf}
 use Rattle.branch_tree.specs.WholeBands.{whole_bands}

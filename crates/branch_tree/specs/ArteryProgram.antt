@@ -4,20 +4,15 @@ use Rattle.progression.specs.TimingRecord.{TimingRecord}
 use Rattle.artery_model.specs.Valid.{IsValid}
 use Rattle.linear_theory.specs.Places.{width}
 use Rattle.loop_rows.specs.Weights.{leaf_fault}
-use Rattle.offset_recovery.specs.Outcomes as vertices
 use Rattle.offset_recovery.specs.Recovered.{recovered}
 use Rattle.program_builder.specs.BoxRows.{rows_of}
 use Rattle.program_builder.specs.Opening.{row_for, goal_of}
 use Rattle.program_builder.specs.First.{first_of}
-use Rattle.branch_tree.specs.declared.site.SitePart.{SitePart}
-use Rattle.branch_tree.specs.declared.site.SitePart.TheVariants.{Ratio, Cell, LeafSum, Timing}
-use Rattle.branch_tree.specs.Program.{Program, Outcome, Refused, Splits, Gives}
+use Rattle.box_search.specs.declared.site.SitePart.{SitePart}
+use Rattle.box_search.specs.declared.site.SitePart.TheVariants.{Ratio, Cell, LeafSum}
+use Rattle.box_search.specs.Program.{Program}
 use Rattle.branch_tree.specs.laws.Firsts.{artery_first}
-
-abbrev pub outcome_of : {T : Type 0} → vertices.Outcome T → Outcome T SitePart
-outcome_of (vertices.Refused wide) = Refused (Timing wide)
-outcome_of (vertices.Splits place) = Splits place
-outcome_of (vertices.Gives timing) = Gives timing
+use Rattle.box_search.specs.VertexOutcomes.{outcome_of}
 
 abbrev pub program_of : Street → Program TimingRecord SitePart
 program_of a = record {

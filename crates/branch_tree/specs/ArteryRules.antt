@@ -5,17 +5,17 @@ use Rattle.progression.specs.TimingRecord.{TimingRecord}
 use Rattle.linear_theory.specs.Boxes.{root_box}
 use Rattle.entry_theory.specs.Basics.{basics_of}
 use Rattle.branch_and_bound.specs.Rules.{Rules}
-use Rattle.branch_tree.specs.declared.site.SitePart.{SitePart}
-use Rattle.branch_tree.specs.declared.kept.Kept.{Kept}
+use Rattle.box_search.specs.declared.site.SitePart.{SitePart}
+use Rattle.branch_tree.specs.declared.kept.KeptBasis.{KeptBasis}
 use Rattle.branch_tree.specs.ArteryProgram.{program_of}
-use Rattle.branch_tree.specs.Meaning.{Meaning, rules_from}
+use Rattle.box_search.specs.Meaning.{Meaning, rules_from}
 use Rattle.branch_tree.specs.Starts.{start_bound}
-use Rattle.branch_tree.specs.Lineage.{IsSearchable}
+use Rattle.box_search.specs.Searchable.{IsSearchable}
 use Rattle.branch_tree.specs.Relaxed.{IsStartLeaf, IsTiming, RefutesBox, CoversBox}
 use Rattle.branch_tree.specs.laws.Relaxed.{covers_more, not_refuted, inside, has_numbers, low_falls, high_falls}
 
 -- an end keeps the basic variables of its last tableau, ascending
-abbrev pub meaning_of : (a : Street) → Meaning Kept (program_of a)
+abbrev pub meaning_of : (a : Street) → Meaning KeptBasis (program_of a)
 meaning_of a = record {
   IsSound = IsSearchable a;
   root = root_box a;
@@ -36,5 +36,5 @@ meaning_of a = record {
 }
 
 -- ---- the relaxation
-abbrev pub rules_of : Street → Rules TimingRecord Kept SitePart
+abbrev pub rules_of : Street → Rules TimingRecord KeptBasis SitePart
 rules_of a = rules_from (program_of a) (meaning_of a)

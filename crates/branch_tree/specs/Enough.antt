@@ -1,41 +1,17 @@
--- How many units of work are enough for a program, as an artery's, and when a search of it may stop by work.
-use Rattle.std.specs.Prelude.{ℕ, ◌+◌, ◌-◌, ◌*◌, ◌^◌, ◌<◌, max, length, Option, Some, None}
+-- How many units of work are enough for an artery, and when a search of it may stop by work.
+use Rattle.std.specs.Prelude.{ℕ, Option}
 use Rattle.progression.specs.Street.{Street}
-use Rattle.linear_theory.specs.Boxes.{Area, root_box}
-use Rattle.branch_and_bound.specs.Choices.{choices}
+use Rattle.linear_theory.specs.Boxes.{root_box}
 use Rattle.branch_and_bound.specs.declared.found.Verdict.{Verdict}
-use Rattle.branch_and_bound.specs.declared.found.Verdict.TheVariants.{Best, NoTiming, Stopped}
-use Rattle.branch_and_bound.specs.declared.found.Stop.TheVariants.{Work, Wide}
-use Rattle.branch_tree.specs.declared.site.SitePart.{SitePart}
-use Rattle.branch_tree.specs.Program.{Program}
+use Rattle.box_search.specs.declared.site.SitePart.{SitePart}
 use Rattle.branch_tree.specs.ArteryProgram.{program_of}
-
--- there are at most so many sets of basic variables: 2 to the power of the number of rows and columns
-abbrev pub sets_in : {T W : Type 0} → Program T W → ℕ
-sets_in p = 2 ^ (length p.names + p.columns)
+use Rattle.box_search.specs.Enough.{sets_in, enough_for, IsWithin}
 
 abbrev pub sets_of : Street → ℕ
 sets_of a = sets_in (program_of a)
 
--- The nodes of the greatest tree, which has a leaf for each choice of block sums and ranks in the root box, or the root alone where there is
--- none; and for each node as many units as there are sets of basic variables.
-abbrev pub enough_for : Area → ℕ → ℕ
-enough_for root sets = (2 * max 1 (choices root) - 1) * sets
-
 abbrev pub enough_of : Street → ℕ
 enough_of a = enough_for (root_box a) (sets_of a)
-
--- there is a limit, and it is less than enough
-abbrev pub IsTooLow : ℕ → Option ℕ → Type 0
-IsTooLow enough None = ⊥
-IsTooLow enough (Some limit) = limit < enough
-
--- a stop by work comes only where there is such a limit
-abbrev pub IsWithin : {W : Type 0} → ℕ → Option ℕ → Verdict W → Type 0
-IsWithin enough limit Best = Unit {0}
-IsWithin enough limit NoTiming = Unit {0}
-IsWithin enough limit (Stopped (Work units)) = IsTooLow enough limit
-IsWithin enough limit (Stopped (Wide site)) = Unit {0}
 
 abbrev pub IsWithinEnough : Street → Option ℕ → Verdict SitePart → Type 0
 IsWithinEnough a = IsWithin (enough_of a)

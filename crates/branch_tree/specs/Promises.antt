@@ -28,14 +28,14 @@ use Rattle.branch_and_bound.specs.Enough.{IsShort}
 use Rattle.branch_and_bound.specs.Lineages.{NoEnd, Empty, Reads, Cuts, IsOptimal}
 use Rattle.branch_and_bound.specs.declared.node.TreeNode.{TreeNode}
 use Rattle.branch_tree.specs.ArteryProgram.{program_of}
-use Rattle.branch_tree.specs.Ends.{table_after, steps_of, end_point, end_bound, end_leaf, ending_of}
-use Rattle.branch_tree.specs.declared.site.SitePart.{SitePart}
-use Rattle.branch_tree.specs.declared.site.SitePart.TheVariants.{LeafSum, Timing}
-use Rattle.branch_tree.specs.Sites.{step_at, IsReached, IsDue, IsWide}
+use Rattle.box_search.specs.Ends.{table_after, steps_of, end_point, end_bound, end_leaf, ending_of}
+use Rattle.box_search.specs.declared.site.SitePart.{SitePart}
+use Rattle.box_search.specs.declared.site.SitePart.TheVariants.{LeafSum, Timing}
+use Rattle.box_search.specs.Sites.{step_at, IsReached, IsDue, IsWide}
 use Rattle.branch_tree.specs.Starts.{start_leaf, start_bound}
 use Rattle.branch_tree.specs.ArteryRules.{rules_of}
 use Rattle.branch_tree.specs.Enough.{sets_of}
-use Rattle.branch_tree.specs.Trees.{node_of}
+use Rattle.box_search.specs.Trees.{node_of}
 
 -- the run of each line comes to an end, before it could have met every set of basic variables
 pub record ComesToAnEnd (a : Street) (line : BoxLine) : Type 0 where

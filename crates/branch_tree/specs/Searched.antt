@@ -1,11 +1,7 @@
 -- What a search of an artery answers, and what its accepted certificate says of every timing on any grid.
 use Rattle.std.specs.Prelude.{ℕ, Option}
-use Rattle.rational_theory.specs.Rational.{ℚ}
 use Rattle.progression.specs.Street.{Street}
-use Rattle.progression.specs.TimingRecord.{TimingRecord}
-use Rattle.branch_and_bound.specs.declared.found.Verdict.{Verdict}
-use Rattle.branch_tree.specs.declared.site.SitePart.{SitePart}
-use Rattle.branch_tree.specs.Kinds.{IsSearchedOf}
+use Rattle.box_search.specs.Kinds.{IsSearchedOf}
 use Rattle.branch_tree.specs.Told.{Found}
 use Rattle.branch_tree.specs.WholeBands.{whole_bands}
 

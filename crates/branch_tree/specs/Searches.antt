@@ -5,7 +5,8 @@ use Rattle.progression.specs.TimingRecord.{TimingRecord}
 use Rattle.progression.specs.Best.{weighted_band}
 use Rattle.branch_and_bound.specs.declared.incumbent.Incumbent.{Incumbent}
 use Rattle.branch_tree.specs.ArteryRules.{rules_of}
-use Rattle.branch_tree.specs.Told.{Found, valued, IsAnswered}
+use Rattle.box_search.specs.Told.{valued, IsAnswered}
+use Rattle.branch_tree.specs.Told.{Found}
 -- what this tells besides, by the names that the crates above know
 pub use Rattle.branch_tree.specs.Told.{Tells, IsCertifiable}
 pub use Rattle.branch_tree.specs.SiteNames.{IsPartOf, HasSite}

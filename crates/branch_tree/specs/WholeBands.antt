@@ -5,7 +5,7 @@ use Rattle.certificate_model.specs.Families.{ordinary}
 use Rattle.certificate_checker.specs.Accepted as accepted
 use Rattle.branch_tree.specs.ArteryRules.{rules_of}
 use Rattle.branch_tree.specs.Enough.{sets_of}
-use Rattle.branch_tree.specs.Kinds.{Kind}
+use Rattle.box_search.specs.Kinds.{Kind}
 use Rattle.branch_tree.specs.SiteNames.{IsSiteOf}
 
 abbrev pub whole_bands : (a : Street) → Kind (rules_of a)

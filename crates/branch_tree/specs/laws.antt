@@ -1,13 +1,8 @@
 pub mod Relaxed
 pub mod Lineage
 pub mod Firsts
-pub mod RunLaws
 pub mod BoxLaws
 pub mod EndLaws
 pub mod LeafWeights
-pub mod Endings
-pub mod Duality
-pub mod Standing
-pub mod Tightening
 pub mod Recoveries
 pub mod Choices

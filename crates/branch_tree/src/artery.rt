@@ -4,16 +4,13 @@
 ghost use Rattle.std.specs.Prelude.{◌≡◌};
 ghost use Rattle.linear_theory.specs.Boxes.{IsBoxOf};
 ghost use Rattle.certificate_model.specs.Warrants.{IsCertificate};
-ghost use Rattle.branch_tree.specs.Certified.{warrant_from};
+ghost use Rattle.box_search.specs.Certified.{warrant_from};
 
 use crate::copying::copied_timing;
-use crate::kept::Kept;
-use crate::program::{Read, Summed};
-use crate::room::Room;
-use crate::site::SitePart;
-use crate::sought::Sought;
+use crate::kept::KeptBasis;
 use crate::starting::start_leaf;
 use artery_model::Artery;
+use box_search::{Read, Room, SitePart, Sought, Summed, known_searchable};
 use certificate_checker::{check, law_accepted_or_refused};
 use certificate_model::{CertNode, Certificate, Claim};
 use fraction_tableau::Tableau;
@@ -21,9 +18,7 @@ use loop_rows::{SumFault, column_count, leaf_sum};
 use named_row::{Leaf, Place, Point, Row};
 use narrow_fraction::{Frac, Memory};
 use offset_recovery::{RecoverFault, Recovered, recover};
-use program_builder::{
-    ArteryTable, EntryMemory, enter_remembering, make_loaded, make_tableau, reset_from,
-};
+use program_builder::{EntryMemory, enter_remembering, make_loaded, make_unloaded, reset_from};
 use search_box::SearchBox;
 use std::alloc::Global;
 use time_space::{Timing, value};
@@ -48,7 +43,7 @@ impl<'a> Sought for WholeBands<'a> {
 
     type Timing = Timing;
 
-    type Kept = Kept;
+    type Kept = KeptBasis;
 
     type Spare = LoadedRows;
 
@@ -69,6 +64,7 @@ impl<'a> Sought for WholeBands<'a> {
     fn known_program(&self) {
         // its contract says that the artery is valid
         self.artery.known_valid();
+        known_searchable(self.artery);
     }
 
     fn root(&self, alloc: Global) -> Result<SearchBox, Memory> {
@@ -85,7 +81,7 @@ impl<'a> Sought for WholeBands<'a> {
         // its contract says that the root box is one of the artery's
         let area = SearchBox::root(alloc, self.artery)?;
         let artery = self.artery;
-        let tableau = make_tableau(alloc, &ArteryTable { artery })?;
+        let tableau = make_unloaded(alloc, artery)?;
         let mut row = Row::zero(alloc, column_count(artery))?;
         let loaded = make_loaded(alloc, artery, &area, &mut row)?;
         let memory = EntryMemory::new(alloc, artery)?;
@@ -94,6 +90,8 @@ impl<'a> Sought for WholeBands<'a> {
     }
 
     fn begin_root(&self, tableau: &mut Tableau, spare: &mut LoadedRows, area: &SearchBox) {
+        // its contract says that the root box is one of the artery's
+        known_searchable(self.artery);
         reset_from(tableau, &spare.loaded, self.artery, area);
     }
 
@@ -102,9 +100,11 @@ impl<'a> Sought for WholeBands<'a> {
         alloc: Global,
         tableau: &mut Tableau,
         spare: &mut LoadedRows,
-        kept: &Kept,
+        kept: &KeptBasis,
         area: &SearchBox,
     ) -> Result<(), Memory> {
+        // its contract says that the artery is valid
+        self.artery.known_valid();
         let basis = kept.basis.as_slice();
         // false says that an operation left 128 bits, and then it is the opening tableau
         let _entered = enter_remembering(
@@ -141,9 +141,9 @@ impl<'a> Sought for WholeBands<'a> {
         }
     }
 
-    fn keep(&self, alloc: Global, tableau: &Tableau) -> Result<Kept, Memory> {
+    fn keep(&self, alloc: Global, tableau: &Tableau) -> Result<KeptBasis, Memory> {
         let basis = tableau.basis(alloc)?;
-        Ok(Kept { basis })
+        Ok(KeptBasis { basis })
     }
 
     fn worth(&self, timing: &Timing) -> Frac {

@@ -1,21 +1,12 @@
-//! Copies.
+//! Copies of timings.
 
 ghost use Rattle.std.specs.Prelude.{◌≡◌, ◌<◌, ◌^◌, pos, IfOk};
 ghost use Rattle.progression.specs.TimingRecord.{first};
 
-use named_row::Leaf;
 use narrow_fraction::Memory;
 use progression::Dir;
 use std::alloc::Global;
-use time_space::{Timing, copied};
-
-/// The same leaf again.
-pub fn copied_leaf(alloc: Global, leaf: &Leaf) -> Result<Leaf, Memory>
-    ensures { IfOk result (λ copy. copy.multipliers.items ≡ leaf.now.multipliers.items) }
-{
-    let multipliers = copied(alloc, leaf.multipliers.as_slice())?;
-    Ok(Leaf { multipliers })
-}
+use time_space::Timing;
 
 /// Where the first line of a direction crosses, in ticks.
 fn first_of(timing: &Timing, dir: Dir) -> u128

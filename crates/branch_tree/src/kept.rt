@@ -2,6 +2,6 @@
 
 /// What a split box keeps of its end for its parts: the basic variables of its last tableau, ascending.
 #[derive(Drop)]
-pub struct Kept {
+pub struct KeptBasis {
     pub basis: Vec<u32>,
 }

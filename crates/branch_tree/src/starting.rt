@@ -6,6 +6,7 @@ ghost use Rattle.dual_leaf.specs.Leaves.{multiplier};
 ghost use Rattle.branch_tree.specs.{Starts.{start_bound}, Relaxed.{IsStartLeaf, CoversBox}};
 
 use artery_model::Artery;
+use loop_rows::family_numbers::{WAIT_IN, WAIT_OUT};
 use loop_rows::{SumFault, leaf_sum};
 use named_row::{Leaf, Place, RowId, Weight};
 use narrow_fraction::{Frac, Memory};
@@ -36,8 +37,8 @@ fn first_waits(alloc: Global, artery: &Artery) -> Result<Leaf, Memory>
     ensures { IfOk result (λ leaf. IsStartLeaf artery.now leaf) }
 {
     let mut multipliers = Vec::new(alloc);
-    push_row(&mut multipliers, 1, Frac::whole(1))?;
-    push_multiplier(&mut multipliers, 2, artery.ratio())?;
+    push_row(&mut multipliers, WAIT_OUT, Frac::whole(1))?;
+    push_multiplier(&mut multipliers, WAIT_IN, artery.ratio())?;
     Ok(Leaf { multipliers })
 }
 

@@ -1,4 +1,3 @@
-pub mod Boxed
 pub mod ColumnNames
 pub mod RowNames
 pub mod Spans

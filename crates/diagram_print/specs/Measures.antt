@@ -4,7 +4,8 @@ use Rattle.rational_theory.specs.Rational.{ℚ}
 use Rattle.quantity_text.specs.Exact.{exact_spelling}
 use Rattle.quantity_text.specs.Decimal.{decimal_spelling}
 use Rattle.progression.specs.Street.{Street}
-use Rattle.progression.specs.TimingRecord.{TimingRecord}
+use Rattle.progression.specs.BaseRecord.{BaseRecord}
+use Rattle.progression.specs.TimingRecord.{TimingRecord, base}
 use Rattle.progression.specs.Best.{weighted_band}
 use Rattle.progression.specs.declared.parts.Dir.{Dir}
 use Rattle.progression.specs.declared.parts.Dir.TheVariants.{Outbound, Inbound}
@@ -27,8 +28,8 @@ weighted_line a t = measure_line (codes "weighted") (weighted_band a t) 6
 abbrev pub band_line : Street → TimingRecord → Dir → List ℕ
 band_line a t d = measure_line (codes "band " ++ dir_name d) (band_share a t d) 6
 
-abbrev pub cycle_line : Street → TimingRecord → List ℕ
+abbrev pub cycle_line : Street → BaseRecord → List ℕ
 cycle_line a t = measure_line (codes "cycle") (cycle_seconds a t) 3
 
 abbrev pub measure_lines : Street → TimingRecord → List ℕ
-measure_lines a t = weighted_line a t ++ (band_line a t Outbound ++ (band_line a t Inbound ++ cycle_line a t))
+measure_lines a t = weighted_line a t ++ (band_line a t Outbound ++ (band_line a t Inbound ++ cycle_line a (base t)))

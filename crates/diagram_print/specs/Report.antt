@@ -4,16 +4,16 @@ use Rattle.std.specs.Fmt.{decimal, signed_decimal}
 use Rattle.rational_theory.specs.Rational.{ℚ}
 use Rattle.quantity_text.specs.Exact.{exact_spelling}
 use Rattle.progression.specs.Street.{Street, count}
-use Rattle.progression.specs.TimingRecord.{TimingRecord}
+use Rattle.progression.specs.TimingRecord.{TimingRecord, base}
 use Rattle.linear_theory.specs.Boxes.{Area, Span, Ranks}
 use Rattle.certificate_model.specs.Families.{Table, ordinary}
+use Rattle.branch_and_bound.specs.declared.found.Found.{Found}
 use Rattle.branch_and_bound.specs.declared.found.Site.{Site}
 use Rattle.branch_and_bound.specs.declared.found.Stop.{Stop}
 use Rattle.branch_and_bound.specs.declared.found.Stop.TheVariants.{Work, Wide}
 use Rattle.branch_and_bound.specs.declared.found.Verdict.{Verdict}
 use Rattle.branch_and_bound.specs.declared.found.Verdict.TheVariants.{Best, NoTiming, Stopped}
-use Rattle.branch_tree.specs.declared.site.SitePart.{SitePart}
-use Rattle.branch_tree.specs.Told.{Found}
+use Rattle.box_search.specs.declared.site.SitePart.{SitePart}
 use Rattle.diagram_print.specs.Sites.{site_line, operands_line}
 use Rattle.diagram_print.specs.Measures.{measure_lines}
 use Rattle.diagram_print.specs.Offsets.{signal_lines}
@@ -69,7 +69,7 @@ verdict_lines table signals timing bound (Stopped stop) = open_lines table signa
 
 -- ---- the report
 abbrev pub timing_lines : Street → TimingRecord → List ℕ
-timing_lines a t = measure_lines a t ++ (signal_lines a t ++ (link_lines a t ++ (codes "diagram\n" ++ diagram_lines a t)))
+timing_lines a t = measure_lines a t ++ (signal_lines a (base t) ++ (link_lines a (base t) ++ (codes "diagram\n" ++ diagram_lines a t)))
 
-abbrev pub report_lines : Street → Found → List ℕ
+abbrev pub report_lines : Street → Found TimingRecord SitePart → List ℕ
 report_lines a found = verdict_lines ordinary (count a) (option_map (timing_lines a) found.timing) found.bound found.verdict

@@ -11,8 +11,8 @@ use Rattle.quantity_text.specs.Exact.{exact_spelling}
 use Rattle.fraction_tableau.specs.declared.wide_cell.WideCell.{WideCell}
 use Rattle.offset_recovery.specs.declared.outcome.WideTiming.{WideTiming}
 use Rattle.offset_recovery.specs.declared.outcome.WideTiming.TheVariants as timing
-use Rattle.branch_tree.specs.declared.site.SitePart.{SitePart}
-use Rattle.branch_tree.specs.declared.site.SitePart.TheVariants as part
+use Rattle.box_search.specs.declared.site.SitePart.{SitePart}
+use Rattle.box_search.specs.declared.site.SitePart.TheVariants as part
 use Rattle.certificate_model.specs.Families.{Table}
 use Rattle.diagram_print.specs.Names.{row_text_in, column_text, place_text}
 

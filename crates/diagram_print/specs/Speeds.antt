@@ -3,7 +3,7 @@ use Rattle.std.specs.Prelude.{ℕ, ◌-◌, List, ◌++◌, codes}
 use Rattle.std.specs.List.{flat_map, range_with_len}
 use Rattle.std.specs.Fmt.{decimal}
 use Rattle.progression.specs.Street.{Street, count}
-use Rattle.progression.specs.TimingRecord.{TimingRecord}
+use Rattle.progression.specs.BaseRecord.{BaseRecord}
 use Rattle.progression.specs.declared.parts.Dir.{Dir}
 use Rattle.progression.specs.declared.parts.Dir.TheVariants.{Outbound, Inbound}
 use Rattle.timing_measures.specs.Measures.{link_speed}
@@ -13,12 +13,12 @@ use Rattle.diagram_print.specs.Measures.{dir_name, measure_line}
 abbrev pub link_name : List ℕ → Dir → ℕ → List ℕ
 link_name between d i = codes "link " ++ (decimal i ++ (between ++ dir_name d))
 
-abbrev pub speed_line : Street → TimingRecord → Dir → ℕ → List ℕ
+abbrev pub speed_line : Street → BaseRecord → Dir → ℕ → List ℕ
 speed_line a t d i = measure_line (link_name (codes " ") d i) (link_speed a t d i) 3
 
 -- outbound and inbound
-abbrev pub speed_lines : Street → TimingRecord → ℕ → List ℕ
+abbrev pub speed_lines : Street → BaseRecord → ℕ → List ℕ
 speed_lines a t i = speed_line a t Outbound i ++ speed_line a t Inbound i
 
-abbrev pub link_lines : Street → TimingRecord → List ℕ
+abbrev pub link_lines : Street → BaseRecord → List ℕ
 link_lines a t = flat_map (speed_lines a t) (range_with_len 1 (count a - 1))

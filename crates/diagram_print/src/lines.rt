@@ -4,7 +4,7 @@ ghost use Rattle.std.specs.Prelude.{◌≡◌, ◌++◌, IfOk, OnOk, IfSome, opt
 ghost use Rattle.progression.specs.{Street.{count}, Good.{Good}};
 ghost use Rattle.linear_theory.specs.Boxes.{IsBoxOf};
 ghost use Rattle.certificate_model.specs.Families.{table_of};
-ghost use Rattle.branch_tree.specs.SiteNames.{StopsAt, EndsAt, HasSite};
+ghost use Rattle.box_search.specs.SiteNames.{StopsAt, EndsAt};
 ghost use Rattle.diagram_print.specs.Report.{timing_lines, bound_line, found_lines, best_lines, open_lines, verdict_lines, report_lines};
 
 use crate::chart::push_diagram;
@@ -13,7 +13,7 @@ use crate::offsets::push_signal_lines;
 use crate::speeds::push_link_lines;
 use crate::stopped::push_stop_lines;
 use artery_model::Artery;
-use branch_tree::{Found, Stop, Verdict};
+use box_search::{FoundOf, Stop, Verdict};
 use certificate_model::{FAMILIES, FamilyName};
 use narrow_fraction::{Frac, Memory};
 use quantity_text::{push_bytes, push_exact, push_text};
@@ -96,9 +96,10 @@ fn push_timing_lines(out: &mut Vec<u8>, artery: &Artery, timing: &Timing) -> Res
     requires { Good artery.now timing.now }
     ensures { OnOk result (out.new.items ≡ out.old.items ++ timing_lines artery.now timing.now) }
 {
+    let base = timing.base();
     push_measure_lines(out, artery, timing)?;
-    push_signal_lines(out, artery, timing)?;
-    push_link_lines(out, artery, timing)?;
+    push_signal_lines(out, artery, base)?;
+    push_link_lines(out, artery, base)?;
     push_text(out, "diagram\n")?;
     push_diagram(out, artery, timing)
 }
@@ -125,12 +126,12 @@ fn lines_of(
 /// The lines that tell what a search of this artery found: the verdict; where the search stopped, why, and the bound; and
 /// the timing, or that there is none. Of a timing there are the weighted band, both bands, the cycle, each signal's pattern,
 /// offset and name, each link's speeds and the diagram; each number is exact and then cut after six decimal places, or three
-/// of seconds and speeds. A timing is a good one of the artery, and a site of a stop names the artery's own rows and columns.
+/// of seconds and speeds. A timing is a good one of the artery, and the box of a site of a stop is one of the artery.
 /// The error is want of memory.
 #[tactic(auto, unfolding(certificate_model::specs::Families::ordinary))]
-pub fn report(alloc: Global, artery: &Artery, found: &Found) -> Result<Vec<u8>, Memory>
+pub fn report(alloc: Global, artery: &Artery, found: &FoundOf<Timing>) -> Result<Vec<u8>, Memory>
     requires good { IfSome found.now.timing (λ t. Good artery.now t) }
-    requires site { HasSite artery.now found.now.verdict }
+    requires site { EndsAt (λ site. IsBoxOf artery.now site.area) found.now.verdict }
     ensures { IfOk result (λ lines. lines.items ≡ report_lines artery.now found.now) }
 {
     let timing = lines_of(alloc, artery, &found.timing)?;

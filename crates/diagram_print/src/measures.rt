@@ -6,7 +6,7 @@ ghost use Rattle.diagram_print.specs.Measures.{dir_name, measure_text, measure_l
 use artery_model::{Artery, Dir};
 use narrow_fraction::{Frac, Memory};
 use quantity_text::{push_decimal, push_exact, push_text};
-use time_space::{Timing, value};
+use time_space::{Base, Timing, value};
 use timing_measures::{band_share, cycle_seconds};
 
 /// The printed name of a direction.
@@ -68,11 +68,11 @@ pub fn push_band_line(
 }
 
 /// Writes the line of the cycle, in seconds.
-pub fn push_cycle_line(out: &mut Vec<u8>, artery: &Artery, timing: &Timing) -> Result<(), Memory>
-    ensures { OnOk result (out.new.items ≡ out.old.items ++ cycle_line artery.now timing.now) }
+pub fn push_cycle_line(out: &mut Vec<u8>, artery: &Artery, base: &Base) -> Result<(), Memory>
+    ensures { OnOk result (out.new.items ≡ out.old.items ++ cycle_line artery.now base.now) }
 {
     push_text(out, "cycle")?;
-    push_measure_line(out, cycle_seconds(artery, timing), 3)
+    push_measure_line(out, cycle_seconds(artery, base), 3)
 }
 
 /// Writes the lines of the bands and of the cycle.
@@ -82,5 +82,5 @@ pub fn push_measure_lines(out: &mut Vec<u8>, artery: &Artery, timing: &Timing) -
     push_weighted_line(out, artery, timing)?;
     push_band_line(out, artery, timing, Dir::Outbound)?;
     push_band_line(out, artery, timing, Dir::Inbound)?;
-    push_cycle_line(out, artery, timing)
+    push_cycle_line(out, artery, timing.base())
 }

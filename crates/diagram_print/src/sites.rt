@@ -5,7 +5,7 @@ ghost use Rattle.certificate_model.specs.Families.{table_of};
 ghost use Rattle.diagram_print.specs.Sites.{cell_line, leaf_line, product_line, number_line, timing_line, site_line, op_name, wide_line, timing_operands, operands_line};
 
 use crate::names::{push_column, push_place, push_row};
-use branch_tree::SitePart;
+use box_search::SitePart;
 use certificate_model::FamilyName;
 use fraction_tableau::WideCell;
 use named_row::{Place, RowId};

@@ -5,13 +5,13 @@ ghost use Rattle.search_box.specs.Seen.{span_of};
 ghost use Rattle.linear_theory.specs.Boxes.{IsBoxOf};
 ghost use Rattle.progression.specs.Street.{count};
 ghost use Rattle.certificate_model.specs.Families.{table_of};
-ghost use Rattle.branch_tree.specs.SiteNames.{StopsAt};
+ghost use Rattle.box_search.specs.SiteNames.{StopsAt};
 ghost use Rattle.diagram_print.specs.Report.{span_text, ranks_text, loops_line, shifts_line, wide_lines, stop_lines};
 ghost use Rattle.artery_model.specs.Bounds.{most_signals};
 
 use crate::sites::{push_count_line, push_operands_line, push_site_line};
 use artery_model::Artery;
-use branch_tree::{Site, Stop};
+use box_search::{Site, Stop};
 use certificate_model::FamilyName;
 use narrow_fraction::Memory;
 use quantity_text::{push_text, push_whole};

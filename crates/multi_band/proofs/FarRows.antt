@@ -9,7 +9,7 @@ use Rattle.progression.specs.declared.parts.Dir.{Dir}
 use Rattle.progression.specs.declared.parts.Dir.TheVariants.{Outbound, Inbound}
 use Rattle.program_builder.specs.BoxRows.{names_below, names_through}
 use Rattle.program_builder.proofs.FirstRows.{HasUpTo, up_to_from, below_all, length-indices_to}
-use Rattle.link_theory.specs.declared.ends.End.TheVariants.{Here, Next}
+use Rattle.link_theory.specs.declared.ends.LinkEnd.TheVariants.{Here, Next}
 use Rattle.link_theory.specs.LinkNames.{NearRow, FarRow, LinkRatioRow}
 use Rattle.link_space.proofs.LinkRowTests.{link_row_decided}
 use Rattle.multi_band.specs.LinkTables.{is_link_there, names_of_links}

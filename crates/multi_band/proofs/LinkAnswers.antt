@@ -15,8 +15,8 @@ use Rattle.link_theory.specs.LinkRecord.{LinkRecord}
 use Rattle.link_proof.specs.LinkAccepted.{IsLinkAccepted}
 use Rattle.link_proof.specs.LinkWarrants.{LinkWarrant}
 use Rattle.branch_and_bound.specs.Answer.{IsProof}
-use Rattle.branch_tree.specs.Kinds.{CanBeSought}
-use Rattle.branch_tree.proofs.Units.{program_short}
+use Rattle.box_search.specs.Kinds.{CanBeSought}
+use Rattle.box_search.proofs.Units.{program_short}
 use Rattle.multi_band.specs.LinkKind.{link_bands}
 use Rattle.multi_band.specs.LinkProgram.{link_program}
 use Rattle.multi_band.specs.LinkRelaxed.{IsLinkLeaf}

@@ -32,8 +32,8 @@ use Rattle.program_builder.proofs.LineCells.{row_each, cells_at, each_cell, line
 use Rattle.program_builder.proofs.LoadedTables.{goal_cells_each, line-loaded, height-loaded, goal-loaded, shaped-loaded}
 use Rattle.program_builder.proofs.RowKinds.{some_green}
 use Rattle.program_builder.proofs.UnitFits.{Sizes, AtEach, HasParts, IsTouched, IsEither, AreFit, units_ready}
-use Rattle.link_theory.specs.declared.ends.End.{End}
-use Rattle.link_theory.specs.declared.ends.End.TheVariants.{Here, Next}
+use Rattle.link_theory.specs.declared.ends.LinkEnd.{LinkEnd}
+use Rattle.link_theory.specs.declared.ends.LinkEnd.TheVariants.{Here, Next}
 use Rattle.link_theory.specs.LinkColumns.{link_width, half_place}
 use Rattle.link_theory.specs.LinkRows.{signal_at, link_line, link_below_form, link_above_form, link_goal}
 use Rattle.link_theory.specs.LinkNames.{LinkName, OfLines, NearRow, FarRow, LinkRatioRow, HasLinkRow, link_row}
@@ -162,7 +162,7 @@ module _ (a : Street) (v : IsValid a) where
       row_touched ((c, x) ∷ (d, y) ∷ []) b (λ j. each_cell IsCell (placed_row (link_width (count a)) ((c, x) ∷ (d, y) ∷ []) b) j cell_zero
       (row_each IsCell (link_width (count a)) ((c, x) ∷ (d, y) ∷ []) b j cell_zero (p, (q, tt))) r)
 
-  end_there : (e : End) (i : ℕ) → HasLink a i → HasSignal a (signal_at e i)
+  end_there : (e : LinkEnd) (i : ℕ) → HasLink a i → HasSignal a (signal_at e i)
   end_there Here i h = let l = h.0 in let m = h.1 in (omega arith, omega arith)
   end_there Next i h = let m = h.1 in (omega arith, omega arith)
 

@@ -25,13 +25,14 @@ use Rattle.link_theory.proofs.LinkFamilies.{link_family_least, link_family_most,
 use Rattle.link_space.specs.LinkWeights.{link_name_at, link_named}
 use Rattle.link_proof.specs.LinkFamilies.{links}
 use Rattle.branch_and_bound.specs.Lines.{BoxLine}
-use Rattle.branch_tree.specs.Ends.{end_leaf}
-use Rattle.branch_tree.specs.Runs.{IsEndLeaf}
-use Rattle.branch_tree.proofs.KeptLeaves.{below_test, program_kept}
+use Rattle.box_search.specs.Ends.{end_leaf}
+use Rattle.box_search.specs.Runs.{IsEndLeaf}
+use Rattle.box_search.proofs.KeptLeaves.{below_test, program_kept}
 use Rattle.multi_band.specs.LinkProgram.{link_program}
 use Rattle.multi_band.specs.LinkRelaxed.{IsLinkStartLeaf}
 use Rattle.multi_band.specs.LinkStarts.{far_weights, twice_ratio, inbound_weights, link_start_leaf}
-use Rattle.multi_band.specs.laws.LinkTables.{links_there, links_ascend, links_most}
+use Rattle.multi_band.specs.laws.LinkTables.{links_there, links_ascend}
+use Rattle.multi_band.proofs.LinkTables.{links_most}
 use Rattle.multi_band.proofs.LinkStarts.{start_links_there}
 
 -- ---- names

@@ -18,10 +18,10 @@ use Rattle.link_space.proofs.LinkRowTests.{link_row_decided, links_stand}
 use Rattle.link_proof.specs.LinkAccepted.{link_aim}
 use Rattle.branch_and_bound.specs.Lines.{BoxLine}
 use Rattle.branch_and_bound.specs.Lineages.{Empty, IsOptimal}
-use Rattle.branch_tree.specs.Meaning.{EndsProve}
-use Rattle.branch_tree.specs.Ends.{end_move, end_point, end_bound, end_leaf, ending_of}
-use Rattle.branch_tree.specs.laws.Endings.{optimal_from}
-use Rattle.branch_tree.proofs.LeafFaults.{AddsRight, leaf_proof, leaf_free}
+use Rattle.box_search.specs.Meaning.{EndsProve}
+use Rattle.box_search.specs.Ends.{end_move, end_point, end_bound, end_leaf, ending_of}
+use Rattle.box_search.specs.laws.Endings.{optimal_from}
+use Rattle.box_search.proofs.LeafFaults.{AddsRight, leaf_proof, leaf_free}
 use Rattle.multi_band.specs.LinkProgram.{link_program}
 use Rattle.multi_band.specs.LinkRelaxed.{IsLinkLeaf}
 use Rattle.multi_band.specs.LinkRules.{link_meaning}

@@ -18,11 +18,11 @@ use Rattle.link_theory.specs.LinkTrees.{link_sum, CoversLinks, RefutesLinks}
 use Rattle.link_space.specs.LinkWeights.{link_named}
 use Rattle.branch_and_bound.specs.Lines.{BoxLine}
 use Rattle.branch_and_bound.specs.Lineages.{Empty, Reads, IsOptimal}
-use Rattle.branch_tree.specs.Program.{Gives}
-use Rattle.branch_tree.specs.Ends.{end_move, end_point, end_bound, end_leaf, ending_of}
-use Rattle.branch_tree.proofs.GivenTimings.{only_gives}
-use Rattle.branch_tree.specs.laws.Endings.{optimal_from, empty_from}
-use Rattle.branch_tree.specs.laws.RunLaws as runs
+use Rattle.box_search.specs.Program.{Gives}
+use Rattle.box_search.specs.Ends.{end_move, end_point, end_bound, end_leaf, ending_of}
+use Rattle.box_search.proofs.GivenTimings.{only_gives}
+use Rattle.box_search.specs.laws.Endings.{optimal_from, empty_from}
+use Rattle.box_search.specs.laws.RunLaws as runs
 use Rattle.multi_band.specs.LinkRecovered.{link_recovered}
 use Rattle.multi_band.specs.LinkProgram.{link_program}
 use Rattle.multi_band.proofs.LinkEnds.{link_sum_read}

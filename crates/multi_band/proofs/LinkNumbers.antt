@@ -1,5 +1,5 @@
 -- What is known of the numbers of a vertex of links where its unit fits.
-use Rattle.std.proofs.Common.{◌≡◌, ℕ, pos, ◌*◌, ◌<◌, ◌≤◌, ◌^◌, List, [], ◌∷◌, length, get_or, refl, sym, subst, arith}
+use Rattle.std.proofs.Common.{◌≡◌, ℕ, pos, ◌+◌, ◌-◌, ◌*◌, ◌<◌, ◌≤◌, ◌^◌, List, [], ◌∷◌, length, get_or, refl, sym, subst, arith}
 use Rattle.std.proofs.lemmas.Int.{ints}
 use Rattle.rational_theory.specs.Rational.{ℚ, ◌*ℚ◌, ◌≤ℚ◌}
 use Rattle.rational_theory.proofs.Order.{≤ℚ-*ℚ, ≤ℤ_whole}
@@ -21,11 +21,11 @@ use Rattle.linear_theory.proofs.Terms.{one, less_one, zero_term}
 use Rattle.linear_theory.proofs.PlacedRows.{met_placed}
 use Rattle.linear_theory.proofs.Divided.{number_not_negative}
 use Rattle.linear_theory.proofs.Ranges.{parts_above, some_signal}
-use Rattle.recovery_theory.specs.Ticks.{value_in, unit_of, ticks_of}
+use Rattle.recovery_theory.specs.Ticks.{value_in, unit_of, ticks_in, ticks_of}
 use Rattle.recovery_theory.specs.Vertices.{IsWhole}
 use Rattle.recovery_theory.proofs.Wholes.{times_cycle}
 use Rattle.link_theory.specs.LinkColumns.{link_width, half_place}
-use Rattle.link_theory.specs.declared.ends.End.TheVariants.{Here}
+use Rattle.link_theory.specs.declared.ends.LinkEnd.TheVariants.{Here}
 use Rattle.link_theory.specs.LinkRows.{end_cells}
 use Rattle.link_theory.specs.LinkNames.{NearRow}
 use Rattle.link_theory.specs.Plain.{plain}
@@ -34,6 +34,7 @@ use Rattle.link_theory.proofs.PlainStreets.{plain_street}
 use Rattle.link_theory.proofs.PlainVertices.{same_unit, same_ticks_in, plain_whole}
 use Rattle.link_theory.proofs.LinesOfVertices.{lines_vertex}
 use Rattle.link_theory.proofs.LinkRowLaws.{end_rises}
+use Rattle.offset_recovery.specs.ByLink.{from_first}
 use Rattle.offset_recovery.specs.Numbers.{IsReady, ProductsFit}
 use Rattle.offset_recovery.proofs.Making.{ready_from, least_second}
 use Rattle.multi_band.specs.LinkReady.{IsLinkReady}
@@ -110,3 +111,15 @@ module _ (a : Street) (box : Area) (x : List ℚ) (h : IsStreet a) (v : IsLinkVe
         columns = v.columns;
         halves = λ d j k. let l = half_ticks_within d j k in let m = r.waits d j (begins j k) in omega arith;
       }
+
+-- ---- halves side by side
+pub halves_placed : (a : Street) (d : Dir) (first : ℕ) → first ≡ half_place (count a) d 1 → (i : ℕ) → HasLink a i → from_first first i ≡ half_place (count a) d i
+halves_placed a Outbound first e i k = let l = k.0 in omega arith
+halves_placed a Inbound first e i k = let l = k.0 in omega arith
+
+pub halves_few : (a : Street) (x : List ℚ) (d : Dir) (first : ℕ) → IsLinkReady a x → first ≡ half_place (count a) d 1 → (i : ℕ) → HasLink a i → ticks_in a x (from_first first i) < 2 ^ 127
+halves_few a x d first r e i k = let l = r.halves d i k in subst (λ j. ticks_in a x j < 2 ^ 127) (sym (halves_placed a d first e i k)) (omega arith)
+
+pub halves_end : (a : Street) (d : Dir) (first : ℕ) → first ≡ half_place (count a) d 1 → 2 ≤ count a → first + count a ≤ link_width (count a) + 1
+halves_end a Outbound first e t = omega arith
+halves_end a Inbound first e t = omega arith

@@ -17,13 +17,13 @@ use Rattle.branch_and_bound.specs.Lines.{BoxLine}
 use Rattle.branch_and_bound.specs.Rules.{IsMet}
 use Rattle.branch_and_bound.specs.Answer.{IsSite}
 use Rattle.branch_and_bound.specs.declared.found.Site.{Site}
-use Rattle.branch_tree.specs.declared.site.SitePart.{SitePart}
-use Rattle.branch_tree.specs.Ends.{end_leaf, end_point}
-use Rattle.branch_tree.specs.Sites.{refusal_at}
-use Rattle.branch_tree.specs.SiteNames.{IsTimingPartIn}
-use Rattle.branch_tree.specs.laws.RunLaws.{point_columns}
-use Rattle.branch_tree.proofs.EachRefusal.{Each, each_earlier, each_first, each_if}
-use Rattle.branch_tree.proofs.NamedSites.{IsNamedOutcome, units_named, lines_named, placed_named, outcome_by_named, made_named, fault_named, vertex_named, refusal_named}
+use Rattle.box_search.specs.declared.site.SitePart.{SitePart}
+use Rattle.box_search.specs.Ends.{end_leaf, end_point}
+use Rattle.box_search.specs.Sites.{refusal_at}
+use Rattle.box_search.specs.SiteNames.{IsTimingPartIn}
+use Rattle.box_search.specs.laws.RunLaws.{point_columns}
+use Rattle.box_search.proofs.EachRefusal.{Each, each_earlier, each_first, each_if}
+use Rattle.box_search.proofs.NamedSites.{IsNamedOutcome, units_named, lines_named, placed_named, outcome_by_named, made_named, fault_named, vertex_named, refusal_named}
 use Rattle.multi_band.specs.LinkProgram.{link_program}
 use Rattle.multi_band.specs.LinkRecovered.{half_tests, link_column_tests, link_number_tests, linked, link_recovered}
 use Rattle.multi_band.specs.LinkRules.{link_rules}

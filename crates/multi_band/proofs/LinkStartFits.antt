@@ -27,7 +27,7 @@ use Rattle.named_row.specs.declared.leaves.Weight.{Weight}
 use Rattle.loop_rows.specs.Weights.{first_fault_with, fault_of, with_weight}
 use Rattle.loop_rows.proofs.LeafSums.{fault_free_by}
 use Rattle.simplex_theory.proofs.Lines.{get_or-add, get_or-scale}
-use Rattle.link_theory.specs.declared.ends.End.TheVariants.{Here}
+use Rattle.link_theory.specs.declared.ends.LinkEnd.TheVariants.{Here}
 use Rattle.link_theory.specs.LinkColumns.{link_width}
 use Rattle.link_theory.specs.LinkRows.{far_form}
 use Rattle.link_theory.specs.LinkNames.{FarRow, HasLinkRow, link_row}

@@ -22,7 +22,7 @@ use Rattle.linear_theory.specs.Places.{width}
 use Rattle.linear_theory.proofs.PlacedRows.{get-zeros}
 use Rattle.named_row.specs.declared.leaves.Weight.{Weight}
 use Rattle.simplex_theory.proofs.Lines.{get_or-add, get_or-scale}
-use Rattle.link_theory.specs.declared.ends.End.TheVariants.{Here}
+use Rattle.link_theory.specs.declared.ends.LinkEnd.TheVariants.{Here}
 use Rattle.link_theory.specs.LinkColumns.{link_width, half_place}
 use Rattle.link_theory.specs.LinkRows.{link_line, far_form, link_goal}
 use Rattle.link_theory.specs.LinkTrees.{link_sum, AreLinkWeights, CoversLinks}

@@ -27,9 +27,6 @@ module _ (a : Street) (x : List ℚ) where
     fit Outbound = (neither (half_tests a x Outbound) (half_tests a x Inbound) both.1).0
     fit Inbound = (neither (half_tests a x Outbound) (half_tests a x Inbound) both.1).1
 
-    pub lines_fit : line_tests a x ≡ None
-    lines_fit = both.0
-
     are_halves : 2 ≤ count a → (d : Dir) → AreHalves (patterns_at a x) (halves_at a x d)
     are_halves few d =
         let n = length-numbered (count a) 1 (pattern_at a x) in

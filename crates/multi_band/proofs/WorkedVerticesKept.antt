@@ -17,8 +17,8 @@ use Rattle.linear_theory.specs.Places.{value_at}
 use Rattle.linear_theory.specs.Boxes.{Area, root_box}
 use Rattle.linear_theory.specs.Names.{WaitRow, FastRow, SlowRow, RiseRow, DropRow, CycleLowRow, CycleHighRow, RatioRow, LoopLowRow, LoopHighRow}
 use Rattle.linear_theory.specs.Names.{TurnLowRow, TurnHighRow, LeastRow, EqualLowRow, EqualHighRow, NoRow}
-use Rattle.link_theory.specs.declared.ends.End.{End}
-use Rattle.link_theory.specs.declared.ends.End.TheVariants.{Here, Next}
+use Rattle.link_theory.specs.declared.ends.LinkEnd.{LinkEnd}
+use Rattle.link_theory.specs.declared.ends.LinkEnd.TheVariants.{Here, Next}
 use Rattle.link_theory.specs.LinkNames.{LinkName, OfLines, NearRow, FarRow, LinkRatioRow, HasLinkRow, link_row}
 use Rattle.link_theory.specs.LinkVertices.{IsLinkVertex}
 use Rattle.multi_band.specs.Worked.{amid, late, WorkedLinkVertices}
@@ -59,8 +59,8 @@ module _ (x : List ℚ) where
     turn_low_there : Meets (OfLines (TurnLowRow 2))
     turn_high_here : Meets (OfLines (TurnHighRow 1))
     turn_high_there : Meets (OfLines (TurnHighRow 2))
-    near : (d : Dir) (e : End) → Meets (NearRow d e 1)
-    far : (d : Dir) (e : End) → Meets (FarRow d e 1)
+    near : (d : Dir) (e : LinkEnd) → Meets (NearRow d e 1)
+    far : (d : Dir) (e : LinkEnd) → Meets (FarRow d e 1)
 
   module _ (m : MeetsAll) where
     of_link : (n : ℕ → LinkName) → Meets (n 1) → (i : ℕ) → HasLink two_signals i → IsMet x (link_row two_signals (root_box two_signals) (n i))
@@ -102,7 +102,7 @@ both : (P : Dir → Type 0) → P Outbound → P Inbound → (d : Dir) → P d
 both P p q Outbound = p
 both P p q Inbound = q
 
-ends : (P : Dir → End → Type 0) → P Outbound Here → P Outbound Next → P Inbound Here → P Inbound Next → (d : Dir) (e : End) → P d e
+ends : (P : Dir → LinkEnd → Type 0) → P Outbound Here → P Outbound Next → P Inbound Here → P Inbound Next → (d : Dir) (e : LinkEnd) → P d e
 ends P p q r s Outbound Here = p
 ends P p q r s Outbound Next = q
 ends P p q r s Inbound Here = r

@@ -2,7 +2,7 @@
 use Rattle.progression.specs.Street.{Street}
 use Rattle.link_theory.specs.BestLinks.{link_value}
 use Rattle.link_proof.specs.LinkWarrants.{LinkWarrant}
-use Rattle.branch_tree.specs.Certified.{warrant_by}
+use Rattle.box_search.specs.Certified.{warrant_by}
 use Rattle.multi_band.specs.LinkTold.{LinkFound}
 
 abbrev pub link_warrant_of : Street → LinkFound → LinkWarrant

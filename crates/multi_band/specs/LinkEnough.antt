@@ -3,8 +3,8 @@ use Rattle.std.specs.Prelude.{ℕ, Option}
 use Rattle.progression.specs.Street.{Street}
 use Rattle.linear_theory.specs.Boxes.{root_box}
 use Rattle.branch_and_bound.specs.declared.found.Verdict.{Verdict}
-use Rattle.branch_tree.specs.declared.site.SitePart.{SitePart}
-use Rattle.branch_tree.specs.Enough.{sets_in, enough_for, IsWithin}
+use Rattle.box_search.specs.declared.site.SitePart.{SitePart}
+use Rattle.box_search.specs.Enough.{sets_in, enough_for, IsWithin}
 use Rattle.multi_band.specs.LinkProgram.{link_program}
 
 -- as for an artery, with the rows and columns of links

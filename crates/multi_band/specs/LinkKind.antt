@@ -3,8 +3,8 @@ use Rattle.progression.specs.Street.{Street}
 use Rattle.link_theory.specs.BestLinks.{links_of}
 use Rattle.link_proof.specs.LinkAccepted.{IsLinkAccepted}
 use Rattle.link_proof.specs.LinkFamilies.{links}
-use Rattle.branch_tree.specs.Enough.{sets_in}
-use Rattle.branch_tree.specs.Kinds.{Kind}
+use Rattle.box_search.specs.Enough.{sets_in}
+use Rattle.box_search.specs.Kinds.{Kind}
 use Rattle.multi_band.specs.LinkProgram.{link_program}
 use Rattle.multi_band.specs.LinkRelaxed.{IsLinkLeaf}
 use Rattle.multi_band.specs.LinkRules.{link_rules}

@@ -6,10 +6,10 @@ use Rattle.link_theory.specs.LinkRecord.{LinkRecord}
 use Rattle.link_theory.specs.LinkColumns.{link_width}
 use Rattle.link_theory.specs.LinkRows.{link_goal}
 use Rattle.link_space.specs.LinkWeights.{link_rows}
-use Rattle.branch_tree.specs.declared.site.SitePart.{SitePart}
-use Rattle.branch_tree.specs.declared.site.SitePart.TheVariants.{Ratio, Cell, LeafSum}
-use Rattle.branch_tree.specs.Program.{Program}
-use Rattle.branch_tree.specs.ArteryProgram.{outcome_of}
+use Rattle.box_search.specs.declared.site.SitePart.{SitePart}
+use Rattle.box_search.specs.declared.site.SitePart.TheVariants.{Ratio, Cell, LeafSum}
+use Rattle.box_search.specs.Program.{Program}
+use Rattle.box_search.specs.VertexOutcomes.{outcome_of}
 use Rattle.multi_band.specs.LinkRecovered.{link_recovered}
 use Rattle.multi_band.specs.LinkTables.{names_of_links, link_row_for}
 use Rattle.multi_band.specs.LinkOpening.{link_opening}

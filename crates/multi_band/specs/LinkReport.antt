@@ -6,7 +6,7 @@ use Rattle.progression.specs.Street.{Street, count}
 use Rattle.progression.specs.BaseRecord.{cycle}
 use Rattle.progression.specs.declared.parts.Dir.{Dir}
 use Rattle.progression.specs.declared.parts.Dir.TheVariants.{Outbound, Inbound}
-use Rattle.link_theory.specs.LinkRecord.{LinkRecord, link_base, lines, half}
+use Rattle.link_theory.specs.LinkRecord.{LinkRecord, link_base, half}
 use Rattle.link_theory.specs.BestLinks.{link_value}
 use Rattle.link_proof.specs.LinkFamilies.{links}
 use Rattle.multi_band.specs.LinkTold.{LinkFound}
@@ -32,7 +32,7 @@ link_band_lines a t = flat_map (both_band_lines a t) (range_with_len 1 (count a 
 -- the value, the bands of each link, the cycle, the signals and the speeds
 abbrev pub link_timing_lines : Street → LinkRecord → List ℕ
 link_timing_lines a t =
-    measure_line (codes "weighted") (link_value a t) 6 ++ (link_band_lines a t ++ (cycle_line a (lines t) ++ (signal_lines a (lines t) ++ link_lines a (lines t))))
+    measure_line (codes "weighted") (link_value a t) 6 ++ (link_band_lines a t ++ (cycle_line a (link_base t) ++ (signal_lines a (link_base t) ++ link_lines a (link_base t))))
 
 abbrev pub link_report_lines : Street → LinkFound → List ℕ
 link_report_lines a found = verdict_lines links (count a) (option_map (link_timing_lines a) found.timing) found.bound found.verdict

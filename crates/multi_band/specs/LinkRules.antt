@@ -3,9 +3,9 @@ use Rattle.progression.specs.Street.{Street}
 use Rattle.linear_theory.specs.Boxes.{root_box}
 use Rattle.link_theory.specs.LinkRecord.{LinkRecord}
 use Rattle.branch_and_bound.specs.Rules.{Rules}
-use Rattle.branch_tree.specs.declared.site.SitePart.{SitePart}
-use Rattle.branch_tree.specs.Meaning.{Meaning, rules_from}
-use Rattle.branch_tree.specs.Lineage.{IsSearchable}
+use Rattle.box_search.specs.declared.site.SitePart.{SitePart}
+use Rattle.box_search.specs.Meaning.{Meaning, rules_from}
+use Rattle.box_search.specs.Searchable.{IsSearchable}
 use Rattle.multi_band.specs.LinkProgram.{link_program}
 use Rattle.multi_band.specs.LinkStarts.{link_start_bound}
 use Rattle.multi_band.specs.LinkRelaxed.{IsLinkStartLeaf, IsLinkTiming, RefutesLinkBox, CoversLinkBox}

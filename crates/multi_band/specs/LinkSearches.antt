@@ -4,7 +4,7 @@ use Rattle.progression.specs.Street.{Street}
 use Rattle.link_theory.specs.LinkRecord.{LinkRecord}
 use Rattle.link_theory.specs.BestLinks.{link_value}
 use Rattle.branch_and_bound.specs.declared.incumbent.Incumbent.{Incumbent}
-use Rattle.branch_tree.specs.Told.{valued, IsAnswered}
+use Rattle.box_search.specs.Told.{valued, IsAnswered}
 use Rattle.multi_band.specs.LinkTold.{LinkFound}
 use Rattle.multi_band.specs.LinkRules.{link_rules}
 

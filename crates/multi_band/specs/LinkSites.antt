@@ -7,8 +7,8 @@ use Rattle.link_theory.specs.LinkNames.{HasLinkRow}
 use Rattle.link_space.specs.LinkWeights.{link_name_at}
 use Rattle.branch_and_bound.specs.declared.found.Site.{Site}
 use Rattle.branch_and_bound.specs.declared.found.Verdict.{Verdict}
-use Rattle.branch_tree.specs.declared.site.SitePart.{SitePart}
-use Rattle.branch_tree.specs.SiteNames.{IsPartIn, EndsAt}
+use Rattle.box_search.specs.declared.site.SitePart.{SitePart}
+use Rattle.box_search.specs.SiteNames.{IsPartIn, EndsAt}
 use Rattle.multi_band.specs.LinkTables.{names_of_links}
 
 -- the row, the column or the link that is named is one of links

@@ -6,7 +6,7 @@ use Rattle.linear_theory.specs.Boxes.{Area}
 use Rattle.named_row.specs.declared.names.RowId.{RowId}
 use Rattle.simplex_theory.specs.Tableau.{Tableau}
 use Rattle.program_builder.specs.BoxRows.{names_through}
-use Rattle.program_builder.specs.RowTable.{RowTable, rows_in}
+use Rattle.program_builder.specs.ProgramTable.{ProgramTable, rows_in}
 use Rattle.program_builder.specs.Loading.{loaded_table}
 use Rattle.link_theory.specs.LinkColumns.{link_width}
 use Rattle.link_theory.specs.LinkRows.{link_goal}
@@ -26,7 +26,7 @@ names_of_links a = names_through (is_link_there a) (suc (count a)) last_link_fam
 abbrev pub link_row_for : Street → Area → RowId → maths.Row
 link_row_for a box r = link_row a box (link_name_at r)
 
-abbrev pub link_table : Street → RowTable
+abbrev pub link_table : Street → ProgramTable
 link_table a = record { columns = link_width (count a); names = names_of_links a; row = link_row_for a; goal = link_goal a }
 
 -- all rows of the box in the order of their names

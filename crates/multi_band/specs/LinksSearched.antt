@@ -4,8 +4,8 @@ use Rattle.rational_theory.specs.Rational.{ℚ}
 use Rattle.progression.specs.Street.{Street}
 use Rattle.link_theory.specs.LinkRecord.{LinkRecord}
 use Rattle.branch_and_bound.specs.declared.found.Verdict.{Verdict}
-use Rattle.branch_tree.specs.declared.site.SitePart.{SitePart}
-use Rattle.branch_tree.specs.Kinds.{IsSearchedOf}
+use Rattle.box_search.specs.declared.site.SitePart.{SitePart}
+use Rattle.box_search.specs.Kinds.{IsSearchedOf}
 use Rattle.multi_band.specs.LinkKind.{link_bands}
 use Rattle.multi_band.specs.LinkTold.{LinkFound}
 

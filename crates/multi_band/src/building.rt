@@ -7,14 +7,13 @@ ghost use Rattle.simplex_theory.specs.Tableau.{height};
 ghost use Rattle.multi_band.specs.LinkTables.{names_of_links};
 ghost use Rattle.multi_band.specs.LinkOpening.{rows_before, half_pivot, IsMadeForLinks, AreSpareRows, loaded_links, opened_links, IsOpenedForLinks};
 
-use crate::table::LinkBandsTable;
 use artery_model::{Artery, Dir};
 use fraction_tableau::Tableau;
-use link_space::{half_column, link_column_count};
+use link_space::{LinkRows, half_column, link_column_count};
 use loop_rows::column_count;
 use named_row::Row;
 use narrow_fraction::{Frac, Memory};
-use program_builder::{StartPivot, load, pivot};
+use program_builder::{StartPivot, load, make_tableau, pivot};
 use search_box::SearchBox;
 use std::alloc::Global;
 
@@ -32,6 +31,32 @@ pub fn make_spare(alloc: Global, artery: &Artery) -> Result<SpareRows, Memory>
     let spare = Row::zero(alloc, column_count(artery))?;
     let row = Row::zero(alloc, link_column_count(artery))?;
     Ok(SpareRows { spare, row })
+}
+
+/// A tableau with room for the rows of an artery's links, with nothing in it yet. The error is want of memory.
+pub fn make_unloaded_links(alloc: Global, artery: &Artery) -> Result<Tableau, Memory>
+    ensures { IfOk result (λ tableau. IsMadeForLinks artery.now tableau) }
+{
+    let tableau = make_tableau(alloc, &LinkRows { artery })?;
+    Ok(tableau)
+}
+
+/// Loads the rows of links of a box and the value of links.
+fn load_links(tableau: &mut Tableau, artery: &Artery, area: &SearchBox, rows: &mut SpareRows)
+    requires boxed { IsBoxOf artery.now area.now }
+    requires made { IsMadeForLinks artery.now tableau.old }
+    requires rows { AreSpareRows artery.now rows.old }
+    ensures loaded { tableau.new ≡ loaded_links artery.now area.now }
+    ensures rows { AreSpareRows artery.now rows.new }
+    ensures unspent { rows.new.row.spent ≡ false }
+{
+    load(
+        tableau,
+        &LinkRows { artery },
+        area,
+        &mut rows.spare,
+        &mut rows.row,
+    );
 }
 
 /// How many rows there are of the ratio: one for each link, and none where it is 1.
@@ -95,7 +120,7 @@ fn enter_halves(tableau: &mut Tableau, artery: &Artery, area: &SearchBox)
     }
 }
 
-/// Makes the tableau that a box of links begins from, in one that `make_tableau` made for this artery's links, spent or not: every
+/// Makes the tableau that a box of links begins from, in one that `make_unloaded_links` made for this artery, spent or not: every
 /// row of links that the artery has, in the order of their names, with the value of links as its goal, after the pivots that bring
 /// the halves into the basis. It is dual feasible for each ratio, and no number leaves 128 bits. The spare rows have any contents
 /// afterwards. Takes no memory.
@@ -108,12 +133,6 @@ pub fn reset_links(tableau: &mut Tableau, artery: &Artery, area: &SearchBox, row
     ensures unspent { rows.new.row.spent ≡ false }
 {
     artery.known_valid();
-    load(
-        tableau,
-        &LinkBandsTable { artery },
-        area,
-        &mut rows.spare,
-        &mut rows.row,
-    );
+    load_links(tableau, artery, area, rows);
     enter_halves(tableau, artery, area);
 }

@@ -7,7 +7,7 @@ ghost use Rattle.multi_band.specs.{LinkSearches.{IsLinkSearch}, LinkTold.{AreLin
 use crate::found::LinkFound;
 use crate::program::ArteryLinks;
 use artery_model::Artery;
-use branch_tree::certificate_for;
+use box_search::certificate_for;
 use link_proof::LinkCertificate;
 use narrow_fraction::Memory;
 use std::alloc::Global;

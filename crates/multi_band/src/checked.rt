@@ -4,12 +4,12 @@
 ghost use Rattle.std.specs.Prelude.{◌≡◌, IfOk, IfSome};
 ghost use Rattle.work_meter.specs.Work.{IsBelow};
 ghost use Rattle.link_theory.specs.GoodLinks.{GoodLinks};
-ghost use Rattle.branch_tree.specs.Told.{IsTimed};
+ghost use Rattle.box_search.specs.Told.{IsTimed};
 ghost use Rattle.multi_band.specs.{LinkCertified.{link_warrant_of}, LinksSearched.{IsLinksSearched}};
 
 use crate::program::ArteryLinks;
 use artery_model::Artery;
-use branch_tree::{SearchedOf, search_and_confirm};
+use box_search::{SearchedOf, search_and_confirm};
 use link_proof::LinkCertificate;
 use link_space::LinkTiming;
 use narrow_fraction::Memory;

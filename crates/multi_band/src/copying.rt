@@ -5,10 +5,9 @@ ghost use Rattle.progression.specs.TimingRecord.{first};
 ghost use Rattle.link_theory.specs.LinkRecord.{lines};
 
 use link_space::LinkTiming;
-use narrow_fraction::Memory;
+use narrow_fraction::{Memory, copied};
 use progression::Dir;
 use std::alloc::Global;
-use time_space::{Timing, copied};
 
 /// Where the line of a direction crosses, in ticks.
 fn first_of(timing: &LinkTiming, dir: Dir) -> u128
@@ -28,14 +27,4 @@ pub fn copied_links(alloc: Global, timing: &LinkTiming) -> Result<LinkTiming, Me
     let first_out = first_of(timing, Dir::Outbound);
     let first_in = first_of(timing, Dir::Inbound);
     Ok(LinkTiming::around(base, first_out, half_out, first_in, half_in))
-}
-
-/// The two lines of a link timing, as a timing whose bands are lines.
-pub fn two_lines(alloc: Global, timing: &LinkTiming) -> Result<Timing, Memory>
-    ensures { IfOk result (λ made. made ≡ lines timing.now) }
-{
-    let base = timing.base().copied(alloc)?;
-    let first_out = first_of(timing, Dir::Outbound);
-    let first_in = first_of(timing, Dir::Inbound);
-    Ok(base.banded(first_out, 0, first_in, 0))
 }

@@ -1,6 +1,6 @@
 //! What a search of links answers.
 
-use branch_tree::FoundOf;
+use box_search::FoundOf;
 use link_space::LinkTiming;
 
 /// The answer of a search of links: the tree in preorder, the best link timing that was found, and the units that were spent.

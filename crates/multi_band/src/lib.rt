@@ -11,14 +11,14 @@
 //!   `specs/LinkRecovered.antt`, a list of tests in their order. `recover_links` answers what it says, but for want of memory; a
 //!   timing is good and its value is the vertex's goal, and a place lies inside the box.
 //! - The search: `ArteryLinks` is what is sought, `specs/LinkProgram.antt` and `specs/LinkRules.antt` are the links of an artery as a program
-//!   over boxes and as a relaxation (`branch_tree`, `branch_and_bound`). What is answered stands in `specs/LinkSearches.antt`, `LinkTold.antt`, `LinkSites.antt`,
+//!   over boxes and as a relaxation (`box_search`, `branch_and_bound`). What is answered stands in `specs/LinkSearches.antt`, `LinkTold.antt`, `LinkSites.antt`,
 //!   `LinkEnough.antt` and `LinkCertified.antt`.
 //! - The report: `link_report` writes the lines of what was found, each a function to bytes (`specs/LinkReport.antt`); what they share
 //!   with the report of whole bands is `diagram_print`'s.
 //!
 //! Each box begins from its own opening tableau, after two pivots for each link, which bring its halves into the basis, and keeps
 //! nothing for its parts; it is dual feasible for each ratio, and no operation of the start leaves 128 bits. No step takes the
-//! columns of the artery's own two bands (`specs/laws/IdleBands.antt`). The answer is pinned as that of `search` of `branch_tree`
+//! columns of the artery's own two bands (`specs/laws/IdleBands.antt`). The answer is pinned as that of `search_sought` of `box_search`
 //! is: tree, units and stop are those of the stated rule, and a stop by work comes only under a limit that is less than enough.
 //! `law_link_outcomes_mean` says in the model's words when each outcome of a vertex comes, and `law_link_outcomes_are_sound` what
 //! follows; two laws decide vertices and outcomes that were worked by hand. That the check of `search_links_and_check` never
@@ -38,7 +38,6 @@ mod recovery;
 mod report;
 mod searching;
 mod starting;
-mod table;
 
 pub use certifying::link_certificate;
 pub use checked::{SearchedLinks, search_links_and_check};
@@ -52,4 +51,3 @@ pub use recovery::{RecoveredLinks, recover_links};
 pub use report::link_report;
 pub use searching::link_search;
 pub use starting::start_link_leaf;
-pub use table::LinkBandsTable;

@@ -3,15 +3,14 @@
 ghost use Rattle.std.specs.Prelude.{◌≡◌};
 ghost use Rattle.linear_theory.specs.Boxes.{IsBoxOf};
 ghost use Rattle.link_proof.specs.LinkWarrants.{IsLinkCertificate};
-ghost use Rattle.branch_tree.specs.Certified.{warrant_from};
+ghost use Rattle.box_search.specs.Certified.{warrant_from};
 
-use crate::building::{SpareRows, make_spare, reset_links};
+use crate::building::{SpareRows, make_spare, make_unloaded_links, reset_links};
 use crate::copying::copied_links;
 use crate::recovery::recover_links;
 use crate::starting::start_link_leaf;
-use crate::table::LinkBandsTable;
 use artery_model::Artery;
-use branch_tree::{Read, Room, SitePart, Sought, Summed};
+use box_search::{Read, Room, SitePart, Sought, Summed, known_searchable};
 use certificate_model::{CertNode, Claim};
 use fraction_tableau::Tableau;
 use link_proof::{LinkCertificate, law_link_accepted_or_refused, link_check};
@@ -20,7 +19,6 @@ use loop_rows::SumFault;
 use named_row::{Leaf, Place, Point};
 use narrow_fraction::{Frac, Memory};
 use offset_recovery::{RecoverFault, Recovered};
-use program_builder::make_tableau;
 use search_box::SearchBox;
 use std::alloc::Global;
 
@@ -57,6 +55,7 @@ impl<'a> Sought for ArteryLinks<'a> {
     fn known_program(&self) {
         // its contract says that the artery is valid
         self.artery.known_valid();
+        known_searchable(self.artery);
     }
 
     fn root(&self, alloc: Global) -> Result<SearchBox, Memory> {
@@ -72,16 +71,14 @@ impl<'a> Sought for ArteryLinks<'a> {
 
     fn make_room(&self, alloc: Global) -> Result<Room<SpareRows>, Memory> {
         let artery = self.artery;
-        // its contract says that the artery is valid
-        artery.known_valid();
-        // its contract says that the root box is one of the artery's
-        let _area = SearchBox::root(alloc, artery)?;
-        let tableau = make_tableau(alloc, &LinkBandsTable { artery })?;
+        let tableau = make_unloaded_links(alloc, artery)?;
         let spare = make_spare(alloc, artery)?;
         Ok(Room { tableau, spare })
     }
 
     fn begin_root(&self, tableau: &mut Tableau, spare: &mut SpareRows, area: &SearchBox) {
+        // its contract says that the root box is one of the artery's
+        known_searchable(self.artery);
         reset_links(tableau, self.artery, area, spare);
     }
 

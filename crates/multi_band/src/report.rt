@@ -1,13 +1,12 @@
 //! The lines of what a search of link timings found.
 
 ghost use Rattle.std.specs.Prelude.{◌≡◌, ◌++◌, IfOk, OnOk, IfSome, option_map};
-ghost use Rattle.progression.specs.{Good.{IsBase}, TimingRecord.{base}};
+ghost use Rattle.progression.specs.Good.{IsBase};
 ghost use Rattle.diagram_print.specs.{Measures.{cycle_line}, Offsets.{signal_lines}, Speeds.{link_lines}};
-ghost use Rattle.link_theory.specs.{LinkRecord.{lines}, GoodLinks.{GoodLinks}};
+ghost use Rattle.link_theory.specs.GoodLinks.{GoodLinks};
 ghost use Rattle.multi_band.specs.{LinkSites.{HasLinkSite}, LinkReport.{link_timing_lines, link_report_lines}};
 
 use crate::band_lines::push_link_bands;
-use crate::copying::two_lines;
 use crate::found::LinkFound;
 use artery_model::Artery;
 use diagram_print::{
@@ -18,26 +17,16 @@ use link_space::{LinkTiming, link_value};
 use narrow_fraction::Memory;
 use quantity_text::push_text;
 use std::alloc::Global;
-use time_space::Timing;
+use time_space::Base;
 
 /// Writes the lines of the cycle, of the signals and of the speeds.
-fn push_base_lines(out: &mut Vec<u8>, artery: &Artery, timing: &Timing) -> Result<(), Memory>
-    requires { IsBase artery.now (base timing.now) }
-    ensures { OnOk result (out.new.items ≡ out.old.items ++ (cycle_line artery.now timing.now ++ (signal_lines artery.now timing.now ++ link_lines artery.now timing.now))) }
+fn push_base_lines(out: &mut Vec<u8>, artery: &Artery, base: &Base) -> Result<(), Memory>
+    requires { IsBase artery.now base.now }
+    ensures { OnOk result (out.new.items ≡ out.old.items ++ (cycle_line artery.now base.now ++ (signal_lines artery.now base.now ++ link_lines artery.now base.now))) }
 {
-    push_cycle_line(out, artery, timing)?;
-    push_signal_lines(out, artery, timing)?;
-    push_link_lines(out, artery, timing)
-}
-
-/// Writes these lines of a link timing, whose two lines are a timing for that.
-fn push_two_lines(out: &mut Vec<u8>, artery: &Artery, timing: &LinkTiming) -> Result<(), Memory>
-    requires { GoodLinks artery.now timing.now }
-    ensures { OnOk result (out.new.items ≡ out.old.items ++ (cycle_line artery.now (lines timing.now) ++ (signal_lines artery.now (lines timing.now) ++ link_lines artery.now (lines timing.now)))) }
-{
-    let alloc = *out.allocator();
-    let lines = two_lines(alloc, timing)?;
-    push_base_lines(out, artery, &lines)
+    push_cycle_line(out, artery, base)?;
+    push_signal_lines(out, artery, base)?;
+    push_link_lines(out, artery, base)
 }
 
 /// Writes the lines of a link timing.
@@ -48,7 +37,7 @@ fn push_link_timing(out: &mut Vec<u8>, artery: &Artery, timing: &LinkTiming) -> 
     push_text(out, "weighted")?;
     push_measure_line(out, link_value(artery, timing), 6)?;
     push_link_bands(out, artery, timing)?;
-    push_two_lines(out, artery, timing)
+    push_base_lines(out, artery, timing.base())
 }
 
 /// The lines of the link timing that a search found, where there is one.
@@ -82,11 +71,10 @@ pub fn link_report(alloc: Global, artery: &Artery, found: &LinkFound) -> Result<
     ensures { IfOk result (λ lines. lines.items ≡ link_report_lines artery.now found.now) }
 {
     let timing = lines_of(alloc, artery, &found.timing)?;
-    let names = link_families(alloc)?;
     verdict_lines(
         alloc,
         artery,
-        names.as_slice(),
+        link_families(),
         &found.verdict,
         found.bound,
         timing,

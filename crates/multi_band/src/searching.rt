@@ -9,11 +9,11 @@ ghost use Rattle.multi_band.specs.LinkEnough.{IsWithinLinkEnough};
 use crate::found::LinkFound;
 use crate::program::ArteryLinks;
 use artery_model::Artery;
-use branch_tree::search_sought;
+use box_search::search_sought;
 use narrow_fraction::Memory;
 use std::alloc::Global;
 
-/// Searches for the artery's best link timing, the one with the greatest value, as `search_sought` of `branch_tree` does, each box
+/// Searches for the artery's best link timing, the one with the greatest value, as `search_sought` of `box_search` does, each box
 /// from its own opening on. A limit of units of work, where there is one, is at least 1; without a limit, or with one that is enough for
 /// the artery's links, no search stops by work. The error is want of memory.
 pub fn link_search(alloc: Global, artery: &Artery, limit: Option<u64>) -> Result<LinkFound, Memory>

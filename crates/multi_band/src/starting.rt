@@ -10,8 +10,9 @@ ghost use Rattle.multi_band.specs.LinkOpening as openings;
 ghost use Rattle.multi_band.specs.LinkStarts.{far_weights, inbound_weights, link_start_leaf, link_start_bound};
 
 use artery_model::{Artery, Dir};
-use link_space::{link_sum, twice};
-use loop_rows::SumFault;
+use link_space::{LinkFamily, link_sum, twice};
+use link_theory::LinkEnd;
+use loop_rows::{Family, SumFault};
 use named_row::{Leaf, Place, RowId, Weight};
 use narrow_fraction::{Frac, Memory};
 use search_box::SearchBox;
@@ -21,10 +22,7 @@ use std::alloc::Global;
 fn far_family(dir: Dir) -> u8
     ensures { result ≡ openings.far_family dir }
 {
-    match dir {
-        Dir::Outbound => 24,
-        Dir::Inbound => 28,
-    }
+    LinkFamily::FarRow(dir, LinkEnd::Here).number()
 }
 
 /// A multiplier for each link's row of a direction.

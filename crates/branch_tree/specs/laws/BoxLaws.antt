@@ -1,5 +1,5 @@
 -- What the ending of a line of a valid artery promises.
-use Rattle.std.proofs.Common.{◌≡◌, ◌<◌, List, sym, ◌∙◌, ap, subst, arith}
+use Rattle.std.proofs.Common.{◌≡◌, ◌<◌, List, sym, ◌∙◌, subst, arith}
 use Rattle.rational_theory.specs.Rational.{ℚ, ◌≤ℚ◌}
 use Rattle.progression.specs.Street.{Street}
 use Rattle.progression.specs.TimingRecord.{TimingRecord}
@@ -12,28 +12,20 @@ use Rattle.recovery_theory.specs.Vertices.{IsVertex, goal_at}
 use Rattle.search_box.specs.declared.span.At.{At}
 use Rattle.search_box.specs.Places.{IsPlace}
 use Rattle.search_box.proofs.Streets.{street_of}
-use Rattle.offset_recovery.specs.Outcomes as vertices
 use Rattle.offset_recovery.specs.Outcomes.{Gives}
 use Rattle.offset_recovery.specs.Recovered.{recovered}
 use Rattle.branch_and_bound.specs.Lines.{BoxLine, low_line, high_line}
 use Rattle.branch_and_bound.specs.Lineages.{NoEnd, Empty, Reads, Cuts, IsOptimal}
-use Rattle.branch_tree.specs.Ends.{end_point, end_bound, end_leaf, ending_of}
+use Rattle.box_search.specs.Ends.{end_point, end_bound, end_leaf, ending_of}
 use Rattle.branch_tree.specs.LeafRows.{sum_of}
-use Rattle.branch_tree.specs.Program.{Splits}
-use Rattle.branch_tree.specs.ArteryProgram.{outcome_of, program_of}
-use Rattle.branch_tree.specs.laws.RunLaws.{end_reached}
+use Rattle.branch_tree.specs.ArteryProgram.{program_of}
+use Rattle.box_search.specs.laws.RunLaws.{end_reached}
 use Rattle.branch_tree.specs.laws.EndLaws.{IsOptimalEnd, IsInfeasibleEnd, optimal_end, infeasible_end, optimal_not_refuted, vertex_is_point, point_is_vertex}
-use Rattle.branch_tree.specs.laws.Endings.{optimal_from, cuts_from, empty_from, ends_somehow}
-use Rattle.branch_tree.specs.laws.Duality.{end_greatest, bound_falls}
-use Rattle.branch_tree.specs.laws.Tightening.{low_vertex, high_vertex}
+use Rattle.box_search.specs.laws.Endings.{optimal_from, cuts_from, empty_from, ends_somehow}
+use Rattle.box_search.specs.laws.Duality.{end_greatest, bound_falls}
+use Rattle.box_search.specs.laws.Tightening.{low_vertex, high_vertex}
 use Rattle.branch_tree.specs.laws.Recoveries.{splits_inside, gives_good}
-
--- ---- outcomes of vertices, with timings of any type
-module _ {T : Type 0} where
-  pub only_splits : (o : vertices.Outcome T) (place : At) → outcome_of o ≡ Splits place → o ≡ vertices.Splits place
-  only_splits (vertices.Refused wide) place e = cc
-  only_splits (vertices.Splits other) place e = let f : other ≡ place = cc in ap vertices.Splits f
-  only_splits (vertices.Gives other) place e = cc
+use Rattle.box_search.specs.laws.VertexOutcomes.{only_splits}
 
 -- ---- ends
 module _ (a : Street) (line : BoxLine) (v : IsValid a) where

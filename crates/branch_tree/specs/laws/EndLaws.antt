@@ -21,12 +21,12 @@ use Rattle.program_builder.specs.Opening.{row_for, goal_of}
 use Rattle.recovery_theory.specs.Vertices.{IsVertex, goal_at}
 use Rattle.dual_leaf.specs.Leaves.{CoversWith, RefutesAt}
 use Rattle.branch_and_bound.specs.Lines.{BoxLine}
-use Rattle.branch_tree.specs.Ends.{end_move, end_point, end_bound, end_leaf}
+use Rattle.box_search.specs.Ends.{end_move, end_point, end_bound, end_leaf}
 use Rattle.branch_tree.specs.LeafRows.{sum_of}
 use Rattle.branch_tree.specs.ArteryProgram.{program_of}
 use Rattle.branch_tree.specs.laws.LeafWeights.{sum_read, weights_of}
-use Rattle.branch_tree.specs.laws.Duality.{IsPointOf, end_over, end_point_of, end_not_refuted}
-use Rattle.branch_tree.specs.laws.RunLaws as runs
+use Rattle.box_search.specs.laws.Duality.{IsPointOf, end_over, end_point_of, end_not_refuted}
+use Rattle.box_search.specs.laws.RunLaws as runs
 
 -- ---- what is promised of an end
 pub record IsOptimalEnd (a : Street) (line : BoxLine) : Type 0 where

@@ -6,7 +6,7 @@ use Rattle.program_builder.specs.Opening.{box_rows, goal_of}
 use Rattle.program_builder.specs.First.{first_of}
 use Rattle.program_builder.proofs.First.{first_is}
 use Rattle.branch_and_bound.specs.Lines.{BoxLine}
-use Rattle.branch_tree.specs.Program.{IsFirst}
+use Rattle.box_search.specs.Program.{IsFirst}
 
 pub artery_first : (a : Street) → IsValid a → (line : BoxLine) → IsFirst (box_rows a line.area) (goal_of a) (width (count a)) (first_of a line.area line.above)
 artery_first a v line = let f = first_is a line.area line.above v in record { columns_are = f.columns; dual = f.dual; stands = f.stands }

@@ -19,7 +19,7 @@ use Rattle.program_builder.specs.Opening.{row_for}
 use Rattle.dual_leaf.specs.Leaves as leaves
 use Rattle.dual_leaf.specs.Leaves.{multiplier}
 use Rattle.branch_tree.specs.LeafRows.{sum_of}
-use Rattle.branch_tree.specs.laws.Duality.{AreOver}
+use Rattle.box_search.specs.laws.Duality.{AreOver}
 
 -- the sum reads each name as the box's row
 pub sum_read : (a : Street) (box : Area) (ws : List Weight) → leaves.sum_of (row_for a box) ws ≡ sum_of a box ws

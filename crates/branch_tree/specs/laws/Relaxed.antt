@@ -15,13 +15,13 @@ use Rattle.branch_and_bound.specs.Lines.{BoxLine, low_line, high_line}
 use Rattle.certificate_checker.specs.Accepted.{Shows}
 use Rattle.branch_and_bound.specs.Lineages.{Cuts, IsOptimal}
 use Rattle.branch_tree.specs.ArteryProgram.{program_of}
-use Rattle.branch_tree.specs.Ends.{end_bound}
+use Rattle.box_search.specs.Ends.{end_bound}
 use Rattle.branch_tree.specs.LeafRows.{sum_of}
 use Rattle.branch_tree.specs.laws.BoxLaws as laws
 use Rattle.branch_tree.specs.laws.Choices.{vertex_numbers}
 use Rattle.branch_tree.specs.Lineage.{line_ending}
 use Rattle.branch_tree.specs.laws.Lineage.{IsLineOf, searchable, boxed}
-use Rattle.branch_tree.specs.Runs.{IsEndLeaf}
+use Rattle.box_search.specs.Runs.{IsEndLeaf}
 use Rattle.branch_tree.specs.Relaxed.{RefutesBox, CoversBox}
 
 -- ---- laws

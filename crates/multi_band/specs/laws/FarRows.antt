@@ -19,7 +19,7 @@ use Rattle.program_builder.specs.Loading.{cells_of}
 use Rattle.program_builder.proofs.FirstRows.{HasUpTo, up_to_from, below_all, stands_behind, length-indices_to, at-indices_to}
 use Rattle.program_builder.proofs.LineCells.{row_each, row_other, cells_at, each_cell}
 use Rattle.program_builder.proofs.LoadedTables.{line-loaded}
-use Rattle.link_theory.specs.declared.ends.End.TheVariants.{Here}
+use Rattle.link_theory.specs.declared.ends.LinkEnd.TheVariants.{Here}
 use Rattle.link_theory.specs.LinkColumns.{link_width, half_place}
 use Rattle.link_theory.specs.LinkRows.{link_line, far_form}
 use Rattle.link_theory.specs.LinkNames.{FarRow, last_link_family}

@@ -27,8 +27,8 @@ use Rattle.program_builder.proofs.LineCells.{AllEntries, line_other, line_width,
 use Rattle.program_builder.proofs.LoadedTables.{line-loaded, height-loaded, width-loaded, standing-loaded}
 use Rattle.program_builder.proofs.RowKinds.{HasNoBand}
 use Rattle.program_builder.proofs.StartPivots.{idle_pivots}
-use Rattle.link_theory.specs.declared.ends.End.{End}
-use Rattle.link_theory.specs.declared.ends.End.TheVariants.{Here, Next}
+use Rattle.link_theory.specs.declared.ends.LinkEnd.{LinkEnd}
+use Rattle.link_theory.specs.declared.ends.LinkEnd.TheVariants.{Here, Next}
 use Rattle.link_theory.specs.LinkColumns.{link_width, half_place}
 use Rattle.link_theory.specs.LinkRows.{signal_at, link_line, near_form, far_form, link_below_form, link_above_form}
 use Rattle.link_theory.specs.LinkNames.{LinkName, NamesNoBand, OfLines, NearRow, FarRow, LinkRatioRow, HasLinkRow, link_row}
@@ -77,7 +77,7 @@ module _ (a : Street) (box : Area) (few : 2 ≤ count a) where
   skipped k l (e ∷ es) p = ((λ q. let m = p.0 in absurd (omega arith)), skipped k l es p.1)
 
   -- ---- rows of links
-  wait_past : (d : Dir) (e : End) (i : ℕ) → 1 ≤ i → 2 ≤ place (count a) (WaitOf d (signal_at e i))
+  wait_past : (d : Dir) (e : LinkEnd) (i : ℕ) → 1 ≤ i → 2 ≤ place (count a) (WaitOf d (signal_at e i))
   wait_past Outbound Here i l = omega arith
   wait_past Outbound Next i l = omega arith
   wait_past Inbound Here i l = omega arith

@@ -4,7 +4,7 @@ use Rattle.artery_model.specs.Valid.{IsValid}
 use Rattle.link_theory.specs.LinkColumns.{link_width}
 use Rattle.link_theory.specs.LinkRows.{link_goal}
 use Rattle.branch_and_bound.specs.Lines.{BoxLine}
-use Rattle.branch_tree.specs.Program.{IsFirst}
+use Rattle.box_search.specs.Program.{IsFirst}
 use Rattle.multi_band.specs.LinkTables.{link_box_rows}
 use Rattle.multi_band.specs.LinkOpening.{link_opening}
 use Rattle.multi_band.specs.laws.LinkOpenings.{width-link_opening, link_opening_dual, link_opening_stands}

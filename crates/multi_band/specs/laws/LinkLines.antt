@@ -22,13 +22,13 @@ use Rattle.link_space.specs.LinkWeights.{link_named}
 use Rattle.branch_and_bound.specs.Choices.{HasNumbers}
 use Rattle.branch_and_bound.specs.Lines.{BoxLine, low_line, high_line}
 use Rattle.branch_and_bound.specs.Lineages.{Cuts, IsOptimal, IsLineage}
-use Rattle.branch_tree.specs.Ends.{table_after, steps_of, end_move, end_point, end_bound, end_leaf, ending_of}
-use Rattle.branch_tree.specs.Lineage.{IsSearchable}
-use Rattle.branch_tree.specs.laws.BoxLaws.{only_splits}
-use Rattle.branch_tree.specs.laws.Duality.{AreOver, end_over, end_point_of, bound_falls}
-use Rattle.branch_tree.specs.laws.Endings.{optimal_from, cuts_from}
-use Rattle.branch_tree.specs.laws.Lineage.{sound_along, boxed_along}
-use Rattle.branch_tree.specs.laws.RunLaws as runs
+use Rattle.box_search.specs.Ends.{table_after, steps_of, end_move, end_point, end_bound, end_leaf, ending_of}
+use Rattle.box_search.specs.Searchable.{IsSearchable}
+use Rattle.box_search.specs.laws.VertexOutcomes.{only_splits}
+use Rattle.box_search.specs.laws.Duality.{AreOver, end_over, end_point_of, bound_falls}
+use Rattle.box_search.specs.laws.Endings.{optimal_from, cuts_from}
+use Rattle.box_search.specs.laws.Lineage.{sound_along, boxed_along}
+use Rattle.box_search.specs.laws.RunLaws as runs
 use Rattle.multi_band.specs.LinkRecovered.{link_recovered}
 use Rattle.multi_band.specs.LinkTables.{names_of_links}
 use Rattle.multi_band.specs.LinkProgram.{link_program}

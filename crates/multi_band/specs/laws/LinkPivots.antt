@@ -23,7 +23,7 @@ use Rattle.link_theory.specs.LinkColumns.{link_width, half_place}
 use Rattle.link_theory.specs.LinkRows.{link_goal}
 use Rattle.multi_band.specs.LinkTables.{link_table, link_loaded}
 use Rattle.multi_band.specs.LinkOpening.{half_pivot, half_pivots, link_pivots}
-use Rattle.multi_band.specs.laws.LinkTables.{link_goal_width}
+use Rattle.link_space.proofs.LinkSets.{link_goal_width}
 use Rattle.multi_band.specs.laws.FarRows.{far_within, directions_apart, half_low, half_high, far_cells, far_own, far_other, far_each, far_line}
 
 -- ---- lists of numbers

@@ -14,9 +14,9 @@ use Rattle.branch_and_bound.specs.Lines.{BoxLine, low_line, high_line}
 use Rattle.branch_and_bound.specs.Lineages.{Cuts, IsOptimal}
 use Rattle.link_space.specs.LinkSheets.{link_goal_sheet}
 use Rattle.link_space.specs.LinkWeights.{link_rows, link_named}
-use Rattle.branch_tree.specs.Ends.{end_point, end_bound, end_leaf, ending_of}
-use Rattle.branch_tree.specs.Runs.{IsEndLeaf}
-use Rattle.branch_tree.specs.laws.Endings.{optimal_from}
+use Rattle.box_search.specs.Ends.{end_point, end_bound, end_leaf, ending_of}
+use Rattle.box_search.specs.Runs.{IsEndLeaf}
+use Rattle.box_search.specs.laws.Endings.{optimal_from}
 use Rattle.multi_band.specs.LinkProgram.{link_program}
 use Rattle.multi_band.specs.LinkRelaxed.{RefutesLinkBox, CoversLinkBox}
 use Rattle.multi_band.specs.laws.LinkWeakDuality.{link_vertex_refutes}

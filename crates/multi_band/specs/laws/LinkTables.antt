@@ -1,12 +1,9 @@
 -- The rows of links of an artery are a table: their names ascend, and each row and the goal is as wide as the table.
 use Rattle.std.proofs.Common.{◌≡◌, ◌↔◌, ◌^◌, ◌+◌, ◌-◌, ◌*◌, ◌<◌, ◌≤◌, ℕ, suc, length, replicate, ◌∙◌, subst, arith, length-append}
 use Rattle.std.proofs.lemmas.List.{length-replicate}
-use Rattle.rational_theory.specs.Rational.{◌*ℚ◌}
 use Rattle.progression.specs.Street.{Street, count}
 use Rattle.progression.specs.Speeds.{number}
-use Rattle.artery_model.specs.Valid.{IsValid}
 use Rattle.linear_theory.specs.Boxes.{Area}
-use Rattle.linear_theory.specs.Places.{width}
 use Rattle.linear_theory.specs.Rows.{line}
 use Rattle.linear_theory.specs.Names.{form_of}
 use Rattle.linear_theory.proofs.PlacedRows.{placed_width}
@@ -14,16 +11,16 @@ use Rattle.named_row.specs.declared.names.RowId.{RowId}
 use Rattle.fraction_tableau.specs.NamedTableaus.{name_in}
 use Rattle.program_builder.specs.BoxRows.{IsAmong}
 use Rattle.program_builder.specs.RowOrder.{IsAscending}
-use Rattle.program_builder.specs.RowTable.{IsTable}
+use Rattle.program_builder.specs.ProgramTable.{IsTable}
 use Rattle.program_builder.proofs.LineCells.{line_width}
 use Rattle.program_builder.proofs.RowOrder.{names_ascending, names_there, among_names}
-use Rattle.program_builder.proofs.RowCounts.{names_most}
 use Rattle.link_theory.specs.LinkColumns.{link_width}
-use Rattle.link_theory.specs.LinkRows.{near_form, far_form, link_ratio_form, link_goal}
+use Rattle.link_theory.specs.LinkRows.{near_form, far_form, link_ratio_form}
 use Rattle.link_theory.specs.LinkNames.{LinkName, OfLines, NearRow, FarRow, LinkRatioRow, HasLinkRow, link_row, last_link_family}
 use Rattle.link_theory.proofs.LinkFamilies.{link_family_least, link_family_most, link_index_most}
 use Rattle.link_space.specs.LinkWeights.{link_name_at}
 use Rattle.link_space.proofs.LinkRowTests.{link_row_decided}
+use Rattle.link_space.proofs.LinkSets.{link_goal_width}
 use Rattle.multi_band.specs.LinkTables.{is_link_there, names_of_links, link_table}
 
 -- ---- widths
@@ -35,16 +32,6 @@ link_row_width a box (OfLines n) two =
 link_row_width a box (NearRow d e i) two = let f = near_form a d e i in placed_width (link_width (count a)) f.cells f.bound
 link_row_width a box (FarRow d e i) two = let f = far_form a d e i in placed_width (link_width (count a)) f.cells f.bound
 link_row_width a box (LinkRatioRow i) two = let f = link_ratio_form a i in placed_width (link_width (count a)) f.cells f.bound
-
-pub link_goal_width : (a : Street) → 2 ≤ count a → length (link_goal a) ≡ link_width (count a)
-link_goal_width a two =
-    let n = count a in
-    let m = n - 1 in
-    let z = length-replicate (width n) (number 0) in
-    let o = length-replicate m (number 2) in
-    let b = length-replicate m (number 2 *ℚ a.head.ratio) in
-    let e = length-append (replicate m (number 2)) (replicate m (number 2 *ℚ a.head.ratio)) in
-    length-append (replicate (width n) (number 0)) _ ∙ omega arith
 
 -- ---- names
 module _ (a : Street) where
@@ -72,11 +59,3 @@ module _ (a : Street) where
     rows = λ box k h. link_row_width a box (link_name_at (name_in (names_of_links a) k)) two;
     goal = link_goal_width a two;
   }
-
-  -- there are few
-  pub links_most : count a ≤ 24 → length (names_of_links a) ≤ last_link_family * 25
-  unfolding names_of_links
-  links_most c = names_most (is_link_there a) (suc (count a)) last_link_family (omega arith)
-
-  pub links_few : IsValid a → length (names_of_links a) + link_width (count a) < 2 ^ 32
-  links_few v = let h = links_most (let n = v.many in omega arith) in let n = v.many in omega arith

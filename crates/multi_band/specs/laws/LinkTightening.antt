@@ -15,8 +15,8 @@ use Rattle.search_box.specs.Places.{IsPlace, low_part, high_part}
 use Rattle.search_box.proofs.Parts.{parts_of}
 use Rattle.link_theory.specs.LinkNames.{LinkName, OfLines, NearRow, FarRow, LinkRatioRow, HasLinkRow, link_row}
 use Rattle.link_space.specs.LinkWeights.{link_name_at}
-use Rattle.branch_tree.specs.laws.Duality.{IsPointOf}
-use Rattle.branch_tree.specs.laws.Tightening.{IsWithin, row_wider, low_within, high_within}
+use Rattle.box_search.specs.laws.Duality.{IsPointOf}
+use Rattle.box_search.specs.laws.Tightening.{IsWithin, row_wider, low_within, high_within}
 use Rattle.multi_band.specs.LinkTables.{names_of_links}
 use Rattle.multi_band.specs.LinkProgram.{link_program}
 use Rattle.multi_band.specs.laws.LinkTables.{links_there}

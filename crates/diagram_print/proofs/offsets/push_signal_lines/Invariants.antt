@@ -4,4 +4,4 @@ use Rattle.diagram_print.specs.Offsets.{signal_line}
 use Rattle.diagram_print.proofs.offsets.push_signal_lines.Given as goal
 
 abbrev pub invariant-loop-signal : goal.invariant-loop-signal
-invariant-loop-signal l = l.out.items ≡ l.fn.out.items ++ flat_map (signal_line l.artery l.timing) (range_with_len 1 (l.signal - 1))
+invariant-loop-signal l = l.out.items ≡ l.fn.out.items ++ flat_map (signal_line l.artery l.base) (range_with_len 1 (l.signal - 1))

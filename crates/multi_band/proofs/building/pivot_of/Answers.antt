@@ -1,6 +1,6 @@
 use Rattle.std.proofs.Common.{arith}
 use Rattle.multi_band.specs.laws.FarRows.{far_within}
-use Rattle.multi_band.specs.laws.LinkTables.{links_few}
+use Rattle.multi_band.proofs.LinkTables.{links_few}
 use Rattle.multi_band.proofs.building.pivot_of.Goals as goal
 
 pub overflow_add-result : goal.overflow_add-result

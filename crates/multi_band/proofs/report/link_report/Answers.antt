@@ -1,4 +1,4 @@
-use Rattle.diagram_print.proofs.Boxed.{ends_at}
+use Rattle.box_search.proofs.EndsAt.{ends_at}
 use Rattle.multi_band.proofs.report.link_report.Goals as goal
 
 pub verdict_lines-requires : goal.verdict_lines-requires

@@ -11,7 +11,7 @@ enter_remembering-requires-clause-boxed c =
 pub enter_remembering-requires-clause-basis : goal.enter_remembering-requires-clause-basis
 enter_remembering-requires-clause-basis c =
     let (parent, line, place, p) = c.requires.part in
-    subst (IsBasisOf c.args.self.now.artery.now) (sym c.as_slice-basis.ensures.value) (part_basis c.args.self.now.artery.now c.args.kept.now c.args.area.now parent line place c.requires.sound.valid p)
+    subst (IsBasisOf c.args.self.now.artery.now) (sym c.as_slice-basis.ensures.value) (part_basis c.args.self.now.artery.now c.args.kept.now c.args.area.now parent line place c.known_valid.ensures p)
 
 pub returns-clause-first : goal.returns-clause-first
 returns-clause-first c = λ parent line place p.

@@ -1,7 +1,7 @@
 use Rattle.std.proofs.Common.{subst, ap, Ok, Err}
 use Rattle.offset_recovery.specs.Recovered.{recovered}
 use Rattle.offset_recovery.specs.Answers.{IsOutcome}
-use Rattle.branch_tree.specs.ArteryProgram.{outcome_of}
+use Rattle.box_search.specs.VertexOutcomes.{outcome_of}
 use Rattle.branch_tree.proofs.ArteryEnds.{end_vertex}
 use Rattle.branch_tree.proofs.artery.WholeBandsSought.read.Goals as goal
 

@@ -1,6 +1,6 @@
 use Rattle.std.proofs.Common.{◌∙◌, ap}
 use Rattle.linear_theory.specs.Boxes.{IsBoxOf}
-use Rattle.branch_tree.proofs.Opens.{part_is_for}
+use Rattle.box_search.proofs.Opens.{part_is_for}
 use Rattle.multi_band.specs.LinkOpening.{opened_links}
 use Rattle.multi_band.specs.LinkRules.{link_rules}
 use Rattle.multi_band.specs.laws.LinkLines.{link_boxed}

@@ -1,6 +1,6 @@
 use Rattle.std.proofs.Common.{subst, ap, Ok, Err}
 use Rattle.offset_recovery.specs.Answers.{IsOutcome}
-use Rattle.branch_tree.specs.ArteryProgram.{outcome_of}
+use Rattle.box_search.specs.VertexOutcomes.{outcome_of}
 use Rattle.multi_band.specs.LinkRecovered.{link_recovered}
 use Rattle.multi_band.proofs.LinkLeafProofs.{link_vertex_there}
 use Rattle.multi_band.proofs.program.ArteryLinksSought.read.Goals as goal

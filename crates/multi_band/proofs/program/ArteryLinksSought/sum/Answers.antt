@@ -5,7 +5,7 @@ use Rattle.named_row.specs.Sheets.{Sheet, at_place}
 use Rattle.loop_rows.specs.Weights.{fault_of, IsFirstFault}
 use Rattle.link_theory.specs.LinkTrees.{AreLinkWeights}
 use Rattle.link_space.specs.LinkWeights.{link_named, link_rows}
-use Rattle.branch_tree.proofs.LeafFaults.{rows_only_wide}
+use Rattle.box_search.proofs.LeafFaults.{rows_only_wide}
 use Rattle.multi_band.proofs.LinkEnds.{link_sum_read}
 use Rattle.multi_band.specs.laws.LinkLeaves.{link_total_bound}
 use Rattle.multi_band.proofs.LinkLeaves.{link_rows_there}

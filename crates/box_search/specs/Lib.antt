@@ -1,0 +1,17 @@
+pub mod Program
+pub mod Ends
+pub mod Sites
+pub mod Runs
+pub mod Meaning
+pub mod VertexOutcomes
+pub mod Searchable
+pub mod Trees
+pub mod Enough
+pub mod Told
+pub mod SiteNames
+pub mod Certified
+pub mod Kinds
+pub mod Rooms
+pub mod BoxRuns
+pub mod OpenedBoxes
+pub mod laws

@@ -1,5 +1,0 @@
-use Rattle.std.proofs.Common.{refl}
-use Rattle.branch_tree.proofs.opening.split_end.Goals as goal
-
-pub returns : goal.returns
-returns g c = (c.in_ok-kept.kept, refl, c.in_ok-kept.ensures)

@@ -1,5 +1,0 @@
-use Rattle.diagram_print.proofs.Boxed.{ends_at}
-use Rattle.diagram_print.proofs.lines.report.Goals as goal
-
-pub verdict_lines-requires : goal.verdict_lines-requires
-verdict_lines-requires c = ends_at (λ site h. h.boxed) c.args.found.now.verdict c.requires.site
