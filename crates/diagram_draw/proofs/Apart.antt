@@ -66,7 +66,7 @@ module _ (c red b : ℕ) (s x o : ℤ) (h : 0 < c) (g : Gap c s red x b) (m n : 
       let three = plus_scale (g.turns +ℤ qs -ℤ qx) (pos m) c in
       let four = minus_scale (g.turns +ℤ qs -ℤ qx +ℤ pos m) (pos n) c in
       let place = g.place in
-      apart_by (g.turns +ℤ qs -ℤ qx +ℤ pos m -ℤ pos n) _ _ c red g.after b (omega (arith, ints, p, q, one, two, three, four, place)) g.free g.room
+      apart_by (g.turns +ℤ qs -ℤ qx +ℤ pos m -ℤ pos n) _ _ c red g.after b (omega (arith, ints, p, q, one, two, three, four, place)) g.free g.within
 
 -- the place of a signal in travel order
 green_there : (a : Street) (t : TimingRecord) (d : Dir) (i : ℕ) → HasSignal a i → IsGreenWay a t d

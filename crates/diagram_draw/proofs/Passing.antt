@@ -251,10 +251,10 @@ bands_are_shown f a t d l n h e v u there g w =
     let here = there.0 in
     let last = there.1 in
     let gap = gap_there a t d l v u (here, omega (arith, last)) g in
-    let room = gap.room in
+    let within = gap.within in
     let free = gap.free in
     let least : 1 ≤ red_ticks a (base t) d l = red_some a t d l v u (here, omega (arith, last)) in
-    band_shown f a t d l e some (omega (arith, e, room, free, least)) n w
+    band_shown f a t d l e some (omega (arith, e, within, free, least)) n w
 
 -- ---- each is seen
 seen_by : (f : Frame) (g : Edge) (part : BandPart) → 0 < f.cycles * f.cycle → IsTrue (is_chosen f g part)

@@ -89,8 +89,8 @@ some_pieces f e part cycles = flat_map (λ m. chosen_piece f e (band_in_cycle f 
 
 -- when the band leaves the link's first signal, in the cycle before the first that is shown; or when it leaves so as to enter the second in that cycle
 abbrev pub first_begin : Frame → Street → TimingRecord → Dir → Edge → ℕ → ℤ
-first_begin f a t d Leaving l = earlier f 1 (after_start a t (line_at a t d (tail d l)))
-first_begin f a t d Entering l = earlier f 1 (after_start a t (line_at a t d (tail d l) +ℤ pos (run (base t) d l))) -ℤ pos (run (base t) d l)
+first_begin f a t d Leaving l = earlier f 1 (after_start a (base t) (line_at a t d (tail d l)))
+first_begin f a t d Entering l = earlier f 1 (after_start a (base t) (line_at a t d (tail d l) +ℤ pos (run (base t) d l))) -ℤ pos (run (base t) d l)
 
 -- a direction's band on a link in the first of these cycles
 abbrev pub band_part : Frame → Street → TimingRecord → Dir → Edge → ℕ → BandPart

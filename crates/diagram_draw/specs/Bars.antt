@@ -44,10 +44,10 @@ blocks f part = some_blocks f part (f.cycles + 1)
 -- ---- what they show
 -- where the direction's red and its band begin in the cycle before the first
 abbrev pub first_red : Frame → Street → TimingRecord → Dir → ℕ → ℤ
-first_red f a t d i = earlier f 1 (after_start a t (red_start a (base t) d i))
+first_red f a t d i = earlier f 1 (after_start a (base t) (red_start a (base t) d i))
 
 abbrev pub first_window : Frame → Street → TimingRecord → Dir → ℕ → ℤ
-first_window f a t d i = earlier f 1 (after_start a t (line_at a t d i))
+first_window f a t d i = earlier f 1 (after_start a (base t) (line_at a t d i))
 
 -- the two parts of a direction's red, in ticks
 abbrev pub common_ticks : Street → TimingRecord → ℕ → ℕ

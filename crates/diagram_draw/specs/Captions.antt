@@ -47,10 +47,10 @@ hundredths x = hundredths_text (nearest x 2)
 
 -- a width in seconds: what is less than a second, to hundredths
 abbrev pub width_text : TimingRecord → ℕ → List ℕ
-width_text t ticks = if nat_le t.grid ticks then seconds_text t ticks else hundredths (seconds t ticks)
+width_text t ticks = if nat_le t.grid ticks then seconds_text (base t) ticks else hundredths (seconds (base t) ticks)
 
 abbrev pub offset_text : Street → TimingRecord → ℕ → List ℕ
-offset_text a t i = moment_text a t (offset a t i)
+offset_text a t i = moment_text a (base t) (offset a (base t) i)
 
 -- ---- above the field
 -- the name of the street, or what the drawing is
@@ -74,7 +74,7 @@ unfoldable pub band_facts : Street → TimingRecord → Dir → List ℕ
 band_facts a t d = if has_band a t d then codes " &#183; " ++ (dir_word d ++ width_facts a t d) else codes " &#183; no " ++ (dir_word d ++ codes " band")
 
 unfoldable pub cycle_facts : Street → TimingRecord → List ℕ
-cycle_facts a t = codes "cycle " ++ (tenths (cycle_seconds a t) ++ codes " s")
+cycle_facts a t = codes "cycle " ++ (tenths (cycle_seconds a (base t)) ++ codes " s")
 
 -- the weighted band, where both directions have a band
 unfoldable pub weighted_facts : Street → TimingRecord → List ℕ
@@ -212,7 +212,7 @@ lengths_text both out back = if both then decimal out ++ (codes "/" ++ decimal b
 
 -- none where a run takes no time
 abbrev pub link_speed_text : Street → TimingRecord → Dir → ℕ → List ℕ
-link_speed_text a t d l = if run (base t) d l == 0 then codes "-" else tenths (link_speed a t d l)
+link_speed_text a t d l = if run (base t) d l == 0 then codes "-" else tenths (link_speed a (base t) d l)
 
 unfoldable pub link_row : Frame → Street → TimingRecord → ℕ → List Caption
 link_row f a t l =
@@ -227,7 +227,7 @@ link_rows f a t = flat_map (link_row f a t) (range_with_len 1 (count a - 1))
 -- ---- where a line steps
 -- the seconds beside the mark
 abbrev pub mark : Frame → Street → TimingRecord → Dir → ℕ → Caption
-mark f a t d i = caption letter.Mark (step_begin f a t d i) (mark_level f a d i) (seconds_text t (step_ticks a t d i) ++ codes " s")
+mark f a t d i = caption letter.Mark (step_begin f a t d i) (mark_level f a d i) (seconds_text (base t) (step_ticks a t d i) ++ codes " s")
 
 abbrev pub marks_at : Frame → Street → TimingRecord → Dir → ℕ → List Caption
 marks_at f a t d i = if has_step a t d i then mark f a t d i ∷ [] else []

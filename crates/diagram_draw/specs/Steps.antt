@@ -3,7 +3,7 @@
 use Rattle.std.specs.Prelude.{ℕ, ◌+◌, ◌*◌, ◌==◌, ◌&&◌, nat_le, not, if◌then◌else◌, Bool, ℤ, pos, ◌+ℤ◌, ◌-ℤ◌, List, [], ◌∷◌, ◌++◌}
 use Rattle.std.specs.List.{flat_map, range_with_len}
 use Rattle.progression.specs.Street.{Street, count, clearance}
-use Rattle.progression.specs.TimingRecord.{TimingRecord}
+use Rattle.progression.specs.TimingRecord.{TimingRecord, base}
 use Rattle.progression.specs.Lines.{stop, line_at}
 use Rattle.progression.specs.declared.parts.Dir.{Dir}
 use Rattle.progression.specs.declared.parts.Dir.TheVariants.{Outbound, Inbound}
@@ -24,7 +24,7 @@ step_ticks a t d i = clearance a d i * t.unit
 
 -- when the band begins at the signal
 abbrev pub step_moment : Street → TimingRecord → Dir → ℕ → ℕ
-step_moment a t d i = after_start a t (line_at a t d i)
+step_moment a t d i = after_start a (base t) (line_at a t d i)
 
 abbrev pub step_begin : Frame → Street → TimingRecord → Dir → ℕ → ℤ
 step_begin f a t d i = x_at f (pos (step_moment a t d i))

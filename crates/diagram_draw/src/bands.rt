@@ -271,9 +271,9 @@ fn first_begin(
     let line = line_at(artery, timing, dir, tail(dir, link));
     let run = timing.run(dir, link);
     match edge {
-        Edge::Leaving => earlier(frame, 1, after_start(artery, timing, line)),
+        Edge::Leaving => earlier(frame, 1, after_start(artery, timing.base(), line)),
         Edge::Entering => {
-            let entry = after_start(artery, timing, after(line, run));
+            let entry = after_start(artery, timing.base(), after(line, run));
             before(earlier(frame, 1, entry), run)
         }
     }

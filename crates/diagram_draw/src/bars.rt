@@ -107,7 +107,7 @@ fn first_red(frame: Frame, artery: &Artery, timing: &Timing, dir: Dir, signal: u
     ensures small { unsigned_abs result < 2 ^ 98 }
 {
     let start = red_start(artery, timing, dir, signal);
-    earlier(frame, 1, after_start(artery, timing, start))
+    earlier(frame, 1, after_start(artery, timing.base(), start))
 }
 
 /// Where a direction's band begins at a signal in the cycle before the first that is shown.
@@ -119,7 +119,7 @@ fn first_window(frame: Frame, artery: &Artery, timing: &Timing, dir: Dir, signal
     ensures small { unsigned_abs result < 2 ^ 98 }
 {
     let line = line_at(artery, timing, dir, signal);
-    earlier(frame, 1, after_start(artery, timing, line))
+    earlier(frame, 1, after_start(artery, timing.base(), line))
 }
 
 /// The common red, in ticks.

@@ -32,7 +32,7 @@ use artery_model::{Artery, Dir, Units};
 use narrow_fraction::{Frac, Memory};
 use progression::Text;
 use quantity_text::{push_number, push_text};
-use time_space::{Timing, cycle, is_early, value};
+use time_space::{Base, Timing, cycle, is_early, value};
 use timing_measures::{cycle_seconds, offset, round_to, seconds, signal_name, some_speed};
 use timing_words::{dir_word, has_band, push_moment, push_percent, push_seconds, push_tenths};
 
@@ -75,9 +75,9 @@ fn push_width(out: &mut Vec<u8>, timing: &Timing, ticks: u128) -> Result<(), Mem
     ensures { OnOk result (out.new.items ≡ out.old.items ++ width_text timing.now ticks) }
 {
     if timing.grid() <= ticks {
-        push_seconds(out, timing, ticks)
+        push_seconds(out, timing.base(), ticks)
     } else {
-        push_hundredths(out, seconds(timing, ticks))
+        push_hundredths(out, seconds(timing.base(), ticks))
     }
 }
 
@@ -92,7 +92,12 @@ pub fn push_offset(
     requires last { signal ≤ length timing.now.patterns }
     ensures { OnOk result (out.new.items ≡ out.old.items ++ offset_text artery.now timing.now signal) }
 {
-    push_moment(out, artery, timing, offset(artery, timing, signal))
+    push_moment(
+        out,
+        artery,
+        timing.base(),
+        offset(artery, timing.base(), signal),
+    )
 }
 
 /// The name of the street, or what the drawing is.
@@ -197,7 +202,7 @@ fn push_cycle_facts(out: &mut Vec<u8>, artery: &Artery, timing: &Timing) -> Resu
     ensures { OnOk result (out.new.items ≡ out.old.items ++ cycle_facts artery.now timing.now) }
 {
     push_text(out, "cycle ")?;
-    push_tenths(out, cycle_seconds(artery, timing))?;
+    push_tenths(out, cycle_seconds(artery, timing.base()))?;
     push_text(out, " s")
 }
 
@@ -793,7 +798,7 @@ fn push_link_speed(
     requires link { HasLink artery.now link }
     ensures { OnOk result (out.new.items ≡ out.old.items ++ link_speed_text artery.now timing.now dir link) }
 {
-    match some_speed(artery, timing, dir, link) {
+    match some_speed(artery, timing.base(), dir, link) {
         Some(speed) => push_tenths(out, speed),
         None => push_text(out, "-"),
     }
@@ -966,11 +971,11 @@ fn push_notes(out: &mut Vec<u8>, frame: Frame) -> Result<(), Memory>
 }
 
 /// Writes ticks as seconds, with their unit.
-fn push_some_seconds(out: &mut Vec<u8>, timing: &Timing, ticks: u128) -> Result<(), Memory>
+fn push_some_seconds(out: &mut Vec<u8>, base: &Base, ticks: u128) -> Result<(), Memory>
     requires { ticks < 2 ^ 126 }
-    ensures { OnOk result (out.new.items ≡ out.old.items ++ (seconds_text timing.now ticks ++ codes " s")) }
+    ensures { OnOk result (out.new.items ≡ out.old.items ++ (seconds_text base.now ticks ++ codes " s")) }
 {
-    push_seconds(out, timing, ticks)?;
+    push_seconds(out, base, ticks)?;
     push_text(out, " s")
 }
 
@@ -992,7 +997,7 @@ fn push_mark(
     let x = step_begin(frame, artery, timing, dir, signal);
     let y = mark_level(frame, artery, dir, signal);
     push_words_opening(out, Letter::Mark, x, y)?;
-    push_some_seconds(out, timing, step_ticks(artery, timing, dir, signal))?;
+    push_some_seconds(out, timing.base(), step_ticks(artery, timing, dir, signal))?;
     push_words_end(out)
 }
 

@@ -93,7 +93,7 @@ fn longest_reach(artery: &Artery, timing: &Timing) -> u128
 fn cycles_for(ticks: u128, cycle: u128) -> u32
     requires ticks { ticks < 2 ^ 100 }
     requires cycle { 4 ≤ cycle }
-    requires room { cycle < 2 ^ 92 }
+    requires size { cycle < 2 ^ 92 }
     ensures value { result ≡ cycles_for ticks cycle }
     ensures least { 2 ≤ result }
     ensures most { result ≤ 12 }

@@ -53,7 +53,7 @@ fn step_moment(artery: &Artery, timing: &Timing, dir: Dir, signal: u32) -> u128
     ensures value { result ≡ step_moment artery.now timing.now dir signal }
     ensures small { result < 2 ^ 92 }
 {
-    after_start(artery, timing, line_at(artery, timing, dir, signal))
+    after_start(artery, timing.base(), line_at(artery, timing, dir, signal))
 }
 
 /// Where a moment of the first cycles stands.

@@ -5,7 +5,7 @@ use Rattle.rational_theory.specs.Rational.{ℚ}
 use Rattle.quantity_text.specs.Exact.{exact_spelling}
 use Rattle.quantity_text.specs.Decimal.{decimal_spelling}
 use Rattle.timing_words.specs.Numbers.{seconds_text}
-use Rattle.progression.specs.TimingRecord.{TimingRecord}
+use Rattle.progression.specs.TimingRecord.{TimingRecord, base}
 use Rattle.certificate_model.specs.Warrants.{Node, SplitAt, LeafOf, Warrant}
 use Rattle.certificate_model.specs.declared.certificate.Claim.{Claim}
 use Rattle.certificate_model.specs.declared.certificate.Claim.TheVariants.{Best, NoTiming, Stopped}
@@ -20,7 +20,7 @@ grid_line t = signals_text t ++ (codes ", ticks a second " ++ (decimal t.grid ++
 
 -- a width in ticks, and in seconds as in a sheet
 unfoldable pub width_text : TimingRecord → ℕ → List ℕ
-width_text t ticks = decimal ticks ++ (codes " ticks = " ++ (seconds_text t ticks ++ codes " s"))
+width_text t ticks = decimal ticks ++ (codes " ticks = " ++ (seconds_text (base t) ticks ++ codes " s"))
 
 unfoldable pub bands_line : TimingRecord → List ℕ
 bands_line t = codes "band outbound " ++ (width_text t t.band_out ++ (codes ", inbound " ++ (width_text t t.band_in ++ codes "\n")))

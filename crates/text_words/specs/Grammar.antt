@@ -11,8 +11,8 @@ use Rattle.text_words.specs.Lines.{from_line, line_of_text, first_word, is_blank
 use Rattle.text_words.specs.Owed.{owed_after}
 use Rattle.text_words.specs.declared.grammar.Opening.{Opening}
 use Rattle.text_words.specs.declared.grammar.Opening.TheVariants.{Best, Nothing, OpenValue, OpenNone, Unknown}
-use Rattle.text_words.specs.declared.walk.Owed.{Owed}
-use Rattle.text_words.specs.declared.walk.Owed.TheVariants as owed
+use Rattle.text_words.specs.declared.walk.OwedLines.{OwedLines}
+use Rattle.text_words.specs.declared.walk.OwedLines.TheVariants as owed
 use Rattle.text_words.specs.declared.wants.Wanted.{Wanted}
 use Rattle.text_words.specs.declared.wants.Wanted.TheVariants as want
 use Rattle.text_words.specs.declared.wants.ClaimLine.TheVariants.{FirstLine, Verdict, Value, Bound, ValueOrNone}
@@ -50,7 +50,7 @@ head_wants Timing o = want.Claim FirstLine ∷ timing_wants Timing
 head_wants f o = want.Claim FirstLine ∷ want.Claim Verdict ∷ claim_wants f o
 
 -- ---- what is owed after them, and what of it comes first
-abbrev pub first_owed : TextFormat → Owed
+abbrev pub first_owed : TextFormat → OwedLines
 first_owed Timing = owed.Trees 0 0
 first_owed SecondCertificate = owed.Rows
 first_owed _ = owed.Names 0
@@ -75,7 +75,7 @@ next_want f trees = if trees == 0 then want.End else want.Tree (node_line f)
 abbrev pub trees_want : TextFormat → ℕ → ℕ → Wanted
 trees_want f lines trees = if lines == 0 then next_want f trees else want.Tree (weight_line f lines)
 
-abbrev pub owed_want : TextFormat → Owed → Wanted
+abbrev pub owed_want : TextFormat → OwedLines → Wanted
 owed_want f owed.Rows = want.Tree tree.Rows
 owed_want f (owed.Names names) = want.Tree (name_line names)
 owed_want f (owed.Trees lines trees) = trees_want f lines trees

@@ -5,7 +5,7 @@ ghost use Rattle.text_words.specs.Grammar.{open_of, opening_of, head_wants, firs
 ghost use Rattle.text_words.specs.{Owed.{trees_of}, Grammar.{rest_wants, wanted_in, wanted_at, is_pattern, patterns_in, signals_in}};
 
 use crate::lines::{blanks, first_word, from_line, is_text, line_of_text};
-use crate::walk::{Owed, owed_after};
+use crate::walk::{OwedLines, owed_after};
 use crate::wants::{ClaimLine, NumberKey, TreeLine, Wanted};
 use file_kind::{TextFormat, text_format};
 
@@ -170,15 +170,15 @@ fn head_wants(format: TextFormat, opening: Opening) -> &'static [Wanted]
 }
 
 /// What is owed after these lines.
-fn first_owed(format: TextFormat) -> Owed
+fn first_owed(format: TextFormat) -> OwedLines
     ensures owed { result ≡ first_owed format }
     ensures few { trees_of result ≤ 1 }
 {
     match format {
-        TextFormat::Timing => Owed::Trees { lines: 0, trees: 0 },
-        TextFormat::FirstCertificate => Owed::Names(0),
-        TextFormat::SecondCertificate => Owed::Rows,
-        TextFormat::Links => Owed::Names(0),
+        TextFormat::Timing => OwedLines::Trees { lines: 0, trees: 0 },
+        TextFormat::FirstCertificate => OwedLines::Names(0),
+        TextFormat::SecondCertificate => OwedLines::Rows,
+        TextFormat::Links => OwedLines::Names(0),
     }
 }
 
@@ -243,14 +243,14 @@ fn trees_want(format: TextFormat, lines: u128, trees: u128) -> Wanted
 }
 
 /// What of all that is owed comes first.
-fn owed_want(format: TextFormat, owed: Owed) -> Wanted
+fn owed_want(format: TextFormat, owed: OwedLines) -> Wanted
     ensures { result ≡ owed_want format owed }
 {
     match owed {
-        Owed::Rows => Wanted::Tree(TreeLine::Rows),
-        Owed::Names(names) => Wanted::Tree(name_line(names)),
-        Owed::Trees { lines, trees } => trees_want(format, lines, trees),
-        Owed::Nothing => Wanted::Nothing,
+        OwedLines::Rows => Wanted::Tree(TreeLine::Rows),
+        OwedLines::Names(names) => Wanted::Tree(name_line(names)),
+        OwedLines::Trees { lines, trees } => trees_want(format, lines, trees),
+        OwedLines::Nothing => Wanted::Nothing,
     }
 }
 

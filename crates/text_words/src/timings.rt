@@ -51,7 +51,7 @@ fn push_width(out: &mut Vec<u8>, timing: &Timing, ticks: u128) -> Result<(), Mem
 {
     push_number(out, ticks)?;
     push_text(out, " ticks = ")?;
-    push_seconds(out, timing, ticks)?;
+    push_seconds(out, timing.base(), ticks)?;
     push_text(out, " s")
 }
 

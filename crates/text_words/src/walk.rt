@@ -9,7 +9,7 @@ use plan_text::number;
 
 /// What a text still owes.
 #[derive(Clone, Copy, Debug, PartialEq, Eq)]
-pub enum Owed {
+pub enum OwedLines {
     /// The line `rows N`, and all that follows it.
     Rows,
     /// So many names of rows, the line `tree`, and all that follows it.
@@ -31,18 +31,18 @@ fn lines_after(line: &[u8]) -> u128
 }
 
 /// What is owed after the first line of a node, beside so many other trees.
-fn after_node(line: &[u8], others: u128) -> Owed
+fn after_node(line: &[u8], others: u128) -> OwedLines
     requires { others + 2 < 2 ^ 128 }
     ensures owed { result ≡ after_node line.now others }
     ensures few { trees_of result ≤ others + 2 }
 {
     if is_text(first_word(line), b"split") {
-        Owed::Trees {
+        OwedLines::Trees {
             lines: 0,
             trees: others + 2,
         }
     } else {
-        Owed::Trees {
+        OwedLines::Trees {
             lines: lines_after(line),
             trees: others,
         }
@@ -50,20 +50,20 @@ fn after_node(line: &[u8], others: u128) -> Owed
 }
 
 /// What is owed after a line that no leaf owes.
-fn next_tree(line: &[u8], trees: u128) -> Owed
+fn next_tree(line: &[u8], trees: u128) -> OwedLines
     requires { trees + 1 < 2 ^ 128 }
     ensures owed { result ≡ next_tree line.now trees }
     ensures few { trees_of result ≤ trees + 1 }
 {
     if trees == 0 {
-        Owed::Nothing
+        OwedLines::Nothing
     } else {
         after_node(line, trees - 1)
     }
 }
 
 /// What is owed after a line of the tree.
-fn in_trees(line: &[u8], lines: u128, trees: u128) -> Owed
+fn in_trees(line: &[u8], lines: u128, trees: u128) -> OwedLines
     requires { trees + 1 < 2 ^ 128 }
     ensures owed { result ≡ in_trees line.now lines trees }
     ensures few { trees_of result ≤ trees + 1 }
@@ -71,7 +71,7 @@ fn in_trees(line: &[u8], lines: u128, trees: u128) -> Owed
     if lines == 0 {
         next_tree(line, trees)
     } else {
-        Owed::Trees {
+        OwedLines::Trees {
             lines: lines - 1,
             trees,
         }
@@ -79,33 +79,33 @@ fn in_trees(line: &[u8], lines: u128, trees: u128) -> Owed
 }
 
 /// What is owed after a name, or after the line `tree`.
-fn in_names(names: u128) -> Owed
+fn in_names(names: u128) -> OwedLines
     ensures owed { result ≡ in_names names }
     ensures few { trees_of result ≤ 1 }
 {
     if names == 0 {
-        Owed::Trees { lines: 0, trees: 1 }
+        OwedLines::Trees { lines: 0, trees: 1 }
     } else {
-        Owed::Names(names - 1)
+        OwedLines::Names(names - 1)
     }
 }
 
 /// What is owed after one line more.
-fn after_line(line: &[u8], owed: Owed) -> Owed
+fn after_line(line: &[u8], owed: OwedLines) -> OwedLines
     requires { trees_of owed + 1 < 2 ^ 128 }
     ensures owed { result ≡ after_line line.now owed }
     ensures few { trees_of result ≤ trees_of owed + 1 }
 {
     match owed {
-        Owed::Rows => Owed::Names(lines_after(line)),
-        Owed::Names(names) => in_names(names),
-        Owed::Trees { lines, trees } => in_trees(line, lines, trees),
-        Owed::Nothing => Owed::Nothing,
+        OwedLines::Rows => OwedLines::Names(lines_after(line)),
+        OwedLines::Names(names) => in_names(names),
+        OwedLines::Trees { lines, trees } => in_trees(line, lines, trees),
+        OwedLines::Nothing => OwedLines::Nothing,
     }
 }
 
 /// What is owed after so many lines.
-pub(crate) fn owed_after(bytes: &[u8], start: Owed, count: u64) -> Owed
+pub(crate) fn owed_after(bytes: &[u8], start: OwedLines, count: u64) -> OwedLines
     requires { trees_of start ≤ 1 }
     ensures { result ≡ owed_after bytes.now start count }
 {

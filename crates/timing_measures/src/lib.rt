@@ -13,4 +13,4 @@ pub use measures::{
     after_start, band_share, cycle_seconds, link_speed, offset, quotient, seconds, signal_name,
     some_speed,
 };
-pub use rounding::{Rounded, round_to};
+pub use rounding::{RoundedNumber, round_to};

@@ -7,7 +7,7 @@ use narrow_fraction::Frac;
 
 /// A number with some decimal places.
 #[derive(Clone, Copy, Debug, PartialEq, Eq)]
-pub struct Rounded {
+pub struct RoundedNumber {
     /// The whole number before the point.
     pub whole: u128,
     /// The digits behind it, as one number.
@@ -48,13 +48,13 @@ fn near_thousandths(rest: u128, bottom: u128) -> u32
 
 /// A whole number and so many parts of one, of which some may be wholes.
 #[tactic(auto, using(crate::proofs::Nearest::wholes_in, crate::proofs::Nearest::rest_in))]
-fn with_parts(whole: u128, near: u32, parts: u32) -> Rounded
+fn with_parts(whole: u128, near: u32, parts: u32) -> RoundedNumber
     requires whole { whole < 2 ^ 127 }
     requires parts { 1 ≤ parts }
     ensures whole { result.whole ≡ (parts * whole + near) / parts }
     ensures rest { result.rest ≡ (parts * whole + near) % parts }
 {
-    Rounded {
+    RoundedNumber {
         whole: whole + u128::from(near / parts),
         rest: near % parts,
     }
@@ -62,7 +62,7 @@ fn with_parts(whole: u128, near: u32, parts: u32) -> Rounded
 
 /// The quotient of two numbers in tenths, hundredths or thousandths.
 #[tactic(auto, using(crate::proofs::Nearest::nearest_rest))]
-fn near_quotient(top: u128, bottom: u128, places: u32) -> Rounded
+fn near_quotient(top: u128, bottom: u128, places: u32) -> RoundedNumber
     requires top { top < 2 ^ 127 }
     requires some { 1 ≤ bottom }
     requires bottom { bottom ≤ 2 ^ 120 }
@@ -80,7 +80,7 @@ fn near_quotient(top: u128, bottom: u128, places: u32) -> Rounded
 }
 
 /// A number of at least 0 with so many decimal places, from 1 to 3: the nearest such number, and of two that are as near the greater.
-pub fn round_to(value: Frac, places: u32) -> Rounded
+pub fn round_to(value: Frac, places: u32) -> RoundedNumber
     requires least { pos 0 ≤ℤ value.num }
     requires denominator { value.den ≤ 2 ^ 120 }
     requires some_places { 1 ≤ places }

@@ -42,15 +42,15 @@ green_ticks m p r u e = let s : p * u ≡ m * u + r * u = ap (λ n. n * u) (sym 
 
 -- ---- a timing of a street
 module _ (a : Street) (t : TimingRecord) (valid : IsValid a) (grid : 1 ≤ t.grid) where
-  parts_are : (n : ℕ) → parts_seconds a n (cycle_seconds a t) ≡ seconds t (n * t.unit)
+  parts_are : (n : ℕ) → parts_seconds a n (cycle_seconds a (base t)) ≡ seconds (base t) (n * t.unit)
   parts_are n =
-      let c = cycle_seconds a t in
+      let c = cycle_seconds a (base t) in
       let few = valid.least_parts in
       parts_of c n (unsigned_abs c.num) a.head.parts t.unit t.grid (omega (arith, few)) (omega (arith, grid))
       (crossed c (unsigned_abs c.num) (cycle a (base t)) t.grid (natural c.num (over_least (cycle a (base t)) t.grid)) (over_ratio (pos (cycle a (base t))) t.grid (omega (arith, grid))))
 
-  run_is : (d : Dir) (i : ℕ) (x : ℚ) → Takes t d i x → x ≡ seconds t (run (base t) d i)
-  run_is d i x e = sym (*ℚ_cancel (seconds t (run (base t) d i)) x (number t.grid) (not_zero t.grid grid) (times_den (pos (run (base t) d i)) t.grid (omega (arith, grid)) ∙ e))
+  run_is : (d : Dir) (i : ℕ) (x : ℚ) → Takes t d i x → x ≡ seconds (base t) (run (base t) d i)
+  run_is d i x e = sym (*ℚ_cancel (seconds (base t) (run (base t) d i)) x (number t.grid) (not_zero t.grid grid) (times_den (pos (run (base t) d i)) t.grid (omega (arith, grid)) ∙ e))
 
   green_is : (d : Dir) (i : ℕ) → HasSignal a i → green_parts a d i * t.unit ≡ cycle a (base t) - red_ticks a (base t) d i
   green_is d i l =
@@ -60,7 +60,7 @@ module _ (a : Street) (t : TimingRecord) (valid : IsValid a) (grid : 1 ≤ t.gri
   agree : SecondsAgree a t
   agree = record {
     parts = λ n. ap tenths (parts_are n);
-    green = λ d i l. ap tenths (parts_are (green_parts a d i)) ∙ ap (λ n. tenths (seconds t n)) (green_is d i l);
+    green = λ d i l. ap tenths (parts_are (green_parts a d i)) ∙ ap (λ n. tenths (seconds (base t) n)) (green_is d i l);
     fastest = λ d i e. ap tenths (run_is d i _ e);
     slowest = λ d i e. ap tenths (run_is d i _ e);
   }

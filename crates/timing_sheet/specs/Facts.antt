@@ -1,7 +1,7 @@
 -- What is told of a timing beside its table: the cycle and both bands.
 use Rattle.std.specs.Prelude.{ℕ, if◌then◌else◌, List, ◌++◌, codes}
 use Rattle.progression.specs.Street.{Street}
-use Rattle.progression.specs.TimingRecord.{TimingRecord, band}
+use Rattle.progression.specs.TimingRecord.{TimingRecord, base, band}
 use Rattle.progression.specs.declared.parts.Dir.{Dir}
 use Rattle.progression.specs.declared.parts.Dir.TheVariants.{Outbound, Inbound}
 use Rattle.timing_measures.specs.Measures.{cycle_seconds}
@@ -9,7 +9,7 @@ use Rattle.timing_words.specs.Numbers.{tenths, seconds_text, percent_text}
 use Rattle.timing_words.specs.Ways.{has_band}
 
 unfoldable pub cycle_line : Street → TimingRecord → List ℕ
-cycle_line a t = codes "cycle " ++ (tenths (cycle_seconds a t) ++ codes " s\n")
+cycle_line a t = codes "cycle " ++ (tenths (cycle_seconds a (base t)) ++ codes " s\n")
 
 abbrev pub band_name : Dir → List ℕ
 band_name Outbound = codes "band out "
@@ -17,7 +17,7 @@ band_name Inbound = codes "band in "
 
 -- in seconds, and in hundredths of the cycle
 unfoldable pub width_line : Street → TimingRecord → Dir → List ℕ
-width_line a t d = band_name d ++ (seconds_text t (band t d) ++ (codes " s = " ++ (percent_text a t d ++ codes " %\n")))
+width_line a t d = band_name d ++ (seconds_text (base t) (band t d) ++ (codes " s = " ++ (percent_text a t d ++ codes " %\n")))
 
 abbrev pub no_band_line : Dir → List ℕ
 no_band_line Outbound = codes "no outbound band\n"

@@ -19,10 +19,10 @@ Takes t d i seconds = number (run (base t) d i) ≡ seconds *ℚ number t.grid
 
 -- At a timing's own cycle so many parts and each direction's green are the same number in both, and so is a run that is at a limit of speed.
 pub record SecondsAgree (a : Street) (t : TimingRecord) : Type 0 where
-  pub parts : (n : ℕ) → tenths (parts_seconds a n (cycle_seconds a t)) ≡ parts_text t n
-  pub green : (d : Dir) (i : ℕ) → HasSignal a i → tenths (parts_seconds a (green_parts a d i) (cycle_seconds a t)) ≡ green_text a t d i
-  pub fastest : (d : Dir) (i : ℕ) → Takes t d i (run_low a d i) → tenths (run_low a d i) ≡ seconds_text t (run (base t) d i)
-  pub slowest : (d : Dir) (i : ℕ) → Takes t d i (run_high a d i) → tenths (run_high a d i) ≡ seconds_text t (run (base t) d i)
+  pub parts : (n : ℕ) → tenths (parts_seconds a n (cycle_seconds a (base t))) ≡ parts_text t n
+  pub green : (d : Dir) (i : ℕ) → HasSignal a i → tenths (parts_seconds a (green_parts a d i) (cycle_seconds a (base t))) ≡ green_text a t d i
+  pub fastest : (d : Dir) (i : ℕ) → Takes t d i (run_low a d i) → tenths (run_low a d i) ≡ seconds_text (base t) (run (base t) d i)
+  pub slowest : (d : Dir) (i : ℕ) → Takes t d i (run_high a d i) → tenths (run_high a d i) ≡ seconds_text (base t) (run (base t) d i)
 
 abbrev pub AllSecondsAgree : Type 0
 AllSecondsAgree = (a : Street) (t : TimingRecord) → IsValid a → 1 ≤ t.grid → SecondsAgree a t

@@ -37,17 +37,17 @@ pattern_text a t i = pattern_words a i (pattern_of (base t) i)
 -- ---- fields of a signal
 -- so many parts of the cycle, in seconds
 abbrev pub parts_text : TimingRecord → ℕ → List ℕ
-parts_text t parts = seconds_text t (parts * t.unit)
+parts_text t parts = seconds_text (base t) (parts * t.unit)
 
 -- a direction's green, which is what its red leaves of the cycle
 abbrev pub green_text : Street → TimingRecord → Dir → ℕ → List ℕ
-green_text a t d i = seconds_text t (cycle a (base t) - red_ticks a (base t) d i)
+green_text a t d i = seconds_text (base t) (cycle a (base t) - red_ticks a (base t) d i)
 
 unfoldable pub name_fields : Street → TimingRecord → ℕ → List (List ℕ)
 name_fields a t i = decimal i ∷ name_cell (signal_of a i).name ∷ pattern_text a t i ∷ []
 
 unfoldable pub time_fields : Street → TimingRecord → Reference → ℕ → List (List ℕ)
-time_fields a t r i = moment_text a t (seconds t (offset_ticks a t r i)) ∷ parts_text t (signal_of a i).red ∷ []
+time_fields a t r i = moment_text a (base t) (seconds (base t) (offset_ticks a t r i)) ∷ parts_text t (signal_of a i).red ∷ []
 
 unfoldable pub turn_fields : Street → TimingRecord → ℕ → List (List ℕ)
 turn_fields a t i = parts_text t (left_against a Inbound i) ∷ parts_text t (left_against a Outbound i) ∷ []
@@ -57,15 +57,15 @@ green_fields a t i = green_text a t Outbound i ∷ green_text a t Inbound i ∷ 
 
 -- when a direction's band begins and ends there, empty where it has none
 unfoldable pub window_fields : Street → TimingRecord → Reference → Dir → ℕ → List (List ℕ)
-window_fields a t r d i = if has_band a t d then moment_text a t (seconds t (first_ticks a t r d i)) ∷ moment_text a t (seconds t (last_ticks a t r d i)) ∷ [] else [] ∷ [] ∷ []
+window_fields a t r d i = if has_band a t d then moment_text a (base t) (seconds (base t) (first_ticks a t r d i)) ∷ moment_text a (base t) (seconds (base t) (last_ticks a t r d i)) ∷ [] else [] ∷ [] ∷ []
 
 -- ---- fields of a link
 -- none where a run takes no time
 abbrev pub speed_text : Street → TimingRecord → Dir → ℕ → List ℕ
-speed_text a t d i = if run (base t) d i == 0 then [] else tenths (link_speed a t d i)
+speed_text a t d i = if run (base t) d i == 0 then [] else tenths (link_speed a (base t) d i)
 
 unfoldable pub way_fields : Street → TimingRecord → Dir → ℕ → List (List ℕ)
-way_fields a t d i = decimal (distance a d i) ∷ seconds_text t (run (base t) d i) ∷ speed_text a t d i ∷ []
+way_fields a t d i = decimal (distance a d i) ∷ seconds_text (base t) (run (base t) d i) ∷ speed_text a t d i ∷ []
 
 abbrev pub no_way_fields : List (List ℕ)
 no_way_fields = [] ∷ [] ∷ [] ∷ []

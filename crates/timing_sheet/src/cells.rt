@@ -42,10 +42,10 @@ pub fn push_ticks(
     ticks: u128,
 ) -> Result<(), Memory>
     requires { ticks < 2 ^ 126 }
-    ensures { OnOk result (record.new ≡ record.old ++ seconds_text timing.now ticks ∷ []) }
+    ensures { OnOk result (record.new ≡ record.old ++ seconds_text (base timing.now) ticks ∷ []) }
 {
     let mut cell = Vec::new(alloc);
-    push_seconds(&mut cell, timing, ticks)?;
+    push_seconds(&mut cell, timing.base(), ticks)?;
     record.push(cell.as_slice())
 }
 
@@ -70,10 +70,15 @@ pub fn push_moment_cell(
     ticks: u128,
 ) -> Result<(), Memory>
     requires { ticks < 2 ^ 92 }
-    ensures { OnOk result (record.new ≡ record.old ++ moment_text artery.now timing.now (seconds timing.now ticks) ∷ []) }
+    ensures { OnOk result (record.new ≡ record.old ++ moment_text artery.now (base timing.now) (seconds (base timing.now) ticks) ∷ []) }
 {
     let mut cell = Vec::new(alloc);
-    push_moment(&mut cell, artery, timing, seconds(timing, ticks))?;
+    push_moment(
+        &mut cell,
+        artery,
+        timing.base(),
+        seconds(timing.base(), ticks),
+    )?;
     record.push(cell.as_slice())
 }
 
@@ -140,7 +145,7 @@ fn push_some_speed(
     requires link { HasLink artery.now link }
     ensures { OnOk result (out.new.items ≡ out.old.items ++ speed_text artery.now timing.now dir link) }
 {
-    match some_speed(artery, timing, dir, link) {
+    match some_speed(artery, timing.base(), dir, link) {
         Some(speed) => push_tenths(out, speed),
         None => Ok(()),
     }

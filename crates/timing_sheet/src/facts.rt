@@ -18,7 +18,7 @@ fn push_cycle_line(out: &mut Vec<u8>, artery: &Artery, timing: &Timing) -> Resul
     ensures { OnOk result (out.new.items ≡ out.old.items ++ cycle_line artery.now timing.now) }
 {
     push_text(out, "cycle ")?;
-    push_tenths(out, cycle_seconds(artery, timing))?;
+    push_tenths(out, cycle_seconds(artery, timing.base()))?;
     push_text(out, " s\n")
 }
 
@@ -42,7 +42,7 @@ fn push_width_line(
     ensures { OnOk result (out.new.items ≡ out.old.items ++ width_line artery.now timing.now dir) }
 {
     push_text(out, band_name(dir))?;
-    push_seconds(out, timing, timing.band(dir))?;
+    push_seconds(out, timing.base(), timing.band(dir))?;
     push_text(out, " s = ")?;
     push_percent(out, artery, timing, dir)?;
     push_text(out, " %\n")
