@@ -13,12 +13,13 @@ use Rattle.branch_and_bound.specs.declared.found.Stop.TheVariants.{Work, Wide}
 use Rattle.branch_and_bound.specs.declared.found.Verdict.{Verdict}
 use Rattle.branch_and_bound.specs.declared.found.Verdict.TheVariants.{Best, NoTiming, Stopped}
 use Rattle.branch_and_bound.specs.Answer.{IsAnswer}
-use Rattle.branch_tree.specs.declared.site.SitePart.{SitePart}
+use Rattle.box_search.specs.declared.site.SitePart.{SitePart}
 use Rattle.branch_tree.specs.Searches.{incumbent_of}
 use Rattle.branch_tree.specs.ArteryRules.{rules_of}
-use Rattle.branch_tree.specs.Trees.{node_of}
-use Rattle.branch_tree.specs.Certified.{value_of, claim_by}
-use Rattle.branch_tree.specs.Kinds.{ProvesBy}
+use Rattle.box_search.specs.Trees.{node_of}
+use Rattle.box_search.specs.Certified.{claim_by}
+use Rattle.branch_tree.specs.Certified.{value_of}
+use Rattle.box_search.specs.Kinds.{ProvesBy}
 use Rattle.progression.specs.Best.{bands_of}
 use Rattle.cycle_sweep.specs.declared.row.SweepRow.TheVariants.{Outside, Searched}
 use Rattle.cycle_sweep.specs.Rows.{at_cycle}

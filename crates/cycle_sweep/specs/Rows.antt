@@ -4,7 +4,7 @@ use Rattle.std.specs.List.{AllZip}
 use Rattle.rational_theory.specs.Rational.{ℚ, ◌≤ℚ◌}
 use Rattle.progression.specs.Street.{Street}
 use Rattle.progression.specs.declared.parts.Head.{Head}
-use Rattle.branch_tree.specs.Told.{IsTimed}
+use Rattle.box_search.specs.Told.{IsTimed}
 use Rattle.branch_tree.specs.Searched.{IsSearched}
 use Rattle.cycle_sweep.specs.declared.row.SweepRow.{SweepRow}
 use Rattle.cycle_sweep.specs.declared.row.SweepRow.TheVariants.{Outside, Searched}

@@ -1,6 +1,6 @@
 //! The sweep: a search at each cycle.
 
-ghost use Rattle.std.specs.Prelude.{◌≡◌, ◌++◌, [], ◌∷◌, All, IfOk, OnOk};
+ghost use Rattle.std.specs.Prelude.{All, IfOk};
 ghost use Rattle.work_meter.specs.Work.{IsBelow};
 ghost use Rattle.artery_model.specs.{Bounds.{least_cycle, most_cycle}, Valid.{IsQuantity}};
 ghost use Rattle.cycle_sweep.specs.Rows.{IsAllowed, IsRow, AreRows, IsTimedRow};
@@ -10,7 +10,7 @@ use crate::cycle::is_allowed;
 use crate::row::SweepRow;
 use artery_model::Artery;
 use branch_tree::search_and_check;
-use narrow_fraction::{Frac, Memory};
+use narrow_fraction::{Frac, Memory, push};
 use std::alloc::Global;
 
 /// What a search at this cycle alone finds.
@@ -48,13 +48,6 @@ fn row_at(
     } else {
         Ok(SweepRow::Outside { cycle })
     }
-}
-
-fn push(rows: &mut Vec<SweepRow>, row: SweepRow) -> Result<(), Memory>
-    ensures { OnOk result (rows.new.items ≡ rows.old.items ++ row ∷ []) }
-{
-    rows.push(row)?;
-    Ok(())
 }
 
 /// One row for each cycle, in their order: what a search of the street with this cycle alone finds, whose certificate was

@@ -16,7 +16,7 @@ use std::io::Write;
 
 /// The fields of one record.
 #[derive(Drop)]
-struct Record {
+struct SweepRecord {
     cycle: Vec<u8>,
     verdict: &'static str,
     weighted: Vec<u8>,
@@ -25,10 +25,10 @@ struct Record {
 }
 
 /// The record of a cycle that the street doesn't allow.
-fn outside_record(alloc: Global, cycle: Frac) -> Result<Record, Memory>
+fn outside_record(alloc: Global, cycle: Frac) -> Result<SweepRecord, Memory>
     ensures { IfOk result (λ r. fields r.cycle.items r.verdict.now r.weighted.items r.bound.items r.cause.now ≡ outside_fields cycle) }
 {
-    Ok(Record {
+    Ok(SweepRecord {
         cycle: number_text(alloc, Some(cycle))?,
         verdict: "outside",
         weighted: number_text(alloc, None)?,
@@ -43,12 +43,12 @@ fn found_record(
     artery: &Artery,
     cycle: Frac,
     found: &Found,
-) -> Result<Record, Memory>
+) -> Result<SweepRecord, Memory>
     ensures { IfOk result (λ r. fields r.cycle.items r.verdict.now r.weighted.items r.bound.items r.cause.now ≡ found_fields artery.now cycle found.now) }
 {
     let value = value_of(artery, &found.timing);
     let bound = bound_of(&found.verdict, found.bound, value);
-    Ok(Record {
+    Ok(SweepRecord {
         cycle: number_text(alloc, Some(cycle))?,
         verdict: verdict_word(&found.verdict),
         weighted: number_text(alloc, value)?,
@@ -57,7 +57,7 @@ fn found_record(
     })
 }
 
-fn record_of(alloc: Global, artery: &Artery, row: &SweepRow) -> Result<Record, Memory>
+fn record_of(alloc: Global, artery: &Artery, row: &SweepRow) -> Result<SweepRecord, Memory>
     ensures { IfOk result (λ r. fields r.cycle.items r.verdict.now r.weighted.items r.bound.items r.cause.now ≡ row_fields artery.now row.now) }
 {
     match row {

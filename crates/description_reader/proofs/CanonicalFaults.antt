@@ -38,7 +38,7 @@ use Rattle.description_reader.specs.declared.judge.Form.TheVariants.{Description
 use Rattle.description_reader.specs.declared.key_table.Presence.TheVariants.{Needed, Optional, NotLast}
 use Rattle.description_reader.specs.declared.judge.Stage.{Stage}
 use Rattle.description_reader.specs.declared.judge.Stage.TheVariants.{Keys, Needed as NeededKeys, Types, Numbers, Ranges}
-use Rattle.description_reader.specs.declared.place.Facts.{Facts}
+use Rattle.description_reader.specs.declared.place.TableFacts.{TableFacts}
 use Rattle.description_reader.proofs.Views.{list_of_items}
 use Rattle.description_reader.proofs.CanonicalTests.{none_of, both_of, each_made, Passes, key_passes, key_passes_in, passes_when, table_passes}
 use Rattle.description_reader.proofs.CanonicalLimits.{IsChangeWithin, HeadFits, SignalFits, signal_fits, LinkFits, link_fits, StreetFits, street_fits}
@@ -46,7 +46,7 @@ use Rattle.description_reader.proofs.CanonicalValues.{below_meets, number_passes
 use Rattle.description_reader.proofs.CanonicalKeys.{of_second, head_keys, link_keys}
 use Rattle.description_reader.proofs.CanonicalStreet.{street_back}
 
-abbrev known : Bool → ℕ → ℕ → Facts
+abbrev known : Bool → ℕ → ℕ → TableFacts
 known second links parts = record { links = links; parts = pos parts; second = second; timed_out = false; timed_in = false }
 
 -- ---- a signal
@@ -56,7 +56,7 @@ red_meets parts n e = below_meets 1 parts n (both_of _ _ e).0 (grind (arith, nat
 turn_meets : (parts n : ℕ) → nat_lt n parts ≡ true → meets (pos parts) (BelowParts (pos 0)) (number_data n) ≡ true
 turn_meets parts n e = below_meets 0 parts n (le-leb 0 n (omega arith)) e
 
-signal_known : (facts : Facts) (i : ℕ) (s : Signal) → unknown_key facts (SignalTable i) (signal_data s) ≡ None
+signal_known : (facts : TableFacts) (i : ℕ) (s : Signal) → unknown_key facts (SignalTable i) (signal_data s) ≡ None
 unfolding keys_of
 signal_known facts i s = refl
 
@@ -96,7 +96,7 @@ signal_passes stage second links parts i s four fits =
     table_passes (known second links parts) (SignalTable i) (signal_members s) (signal_known (known second links parts) i s) (signal_keys_pass second links parts i s four fits) stage
 
 -- ---- a link
-known_with : (facts : Facts) (i : ℕ) (out back : Option Pair) (l : Link) → IsChangeWithin (i == facts.links) out → IsChangeWithin (i == facts.links) back
+known_with : (facts : TableFacts) (i : ℕ) (out back : Option Pair) (l : Link) → IsChangeWithin (i == facts.links) out → IsChangeWithin (i == facts.links) back
     → unknown_key facts (LinkTable i) (link_data (record l { change_out = out; change_in = back })) ≡ None
 unfolding keys_of
 known_with facts i None None l h k = refl
@@ -109,7 +109,7 @@ change_passes : (parts : ℤ) (name : List ℕ) (is_last : Bool) (o : Option Pai
 change_passes parts name is_last None h = absent_passes parts name NotLast two_quantities (items (Within least_change most_change)) tt
 change_passes parts name is_last (Some p) h = pair_passes parts name NotLast least_change most_change p h.1
 
-link_keys_pass : (facts : Facts) (links i : ℕ) (l : Link) → LinkFits (i == links) l → (stage : Stage)
+link_keys_pass : (facts : TableFacts) (links i : ℕ) (l : Link) → LinkFits (i == links) l → (stage : Stage)
     → first_fault (map (key_fault stage facts (LinkTable i) (link_data l)) (keys_of (LinkTable i))) ≡ None
 unfolding keys_of
 link_keys_pass facts links i l fits stage =
@@ -144,7 +144,7 @@ link_passes stage second links parts i l fits =
     table_passes facts (LinkTable i) (link_members l) (known_with facts i l.change_out l.change_in l fits.change_out fits.change_in) (link_keys_pass facts links i l fits) stage
 
 -- ---- the artery
-known_with_name : (second : Bool) (facts : Facts) (name : Option (List ℕ)) (h : Head)
+known_with_name : (second : Bool) (facts : TableFacts) (name : Option (List ℕ)) (h : Head)
     → unknown_key (record facts { second = second }) Artery (table (head_members_in second (record h { name = name }))) ≡ None
 unfolding keys_of
 known_with_name false facts None h = refl
@@ -171,7 +171,7 @@ equal_passes : (second : Bool) (parts : ℤ) (name : List ℕ) (b : Bool)
 equal_passes false parts name b = passes_when parts Second name Optional _ _ _ (absent_passes parts name Optional (alone Boolean) (alone Anything) tt)
 equal_passes true parts name b = passes_when parts Second name Optional _ _ _ (flag_passes parts name Optional b)
 
-head_keys_pass : (facts : Facts) (h : Head) → HeadFits h → (stage : Stage)
+head_keys_pass : (facts : TableFacts) (h : Head) → HeadFits h → (stage : Stage)
     → first_fault (map (key_fault stage facts Artery (table (head_members h))) (keys_of Artery)) ≡ None
 unfolding keys_of
 head_keys_pass facts h fits stage =
@@ -212,7 +212,7 @@ head_passes stage links parts h fits =
     table_passes facts Artery (head_members h) (known_with_name second facts h.name h) (head_keys_pass facts h fits) stage
 
 -- ---- the root
-root_known : (second : Bool) (facts : Facts) (a : Street) → unknown_key (record facts { second = second }) Root (table (canonical a)) ≡ None
+root_known : (second : Bool) (facts : TableFacts) (a : Street) → unknown_key (record facts { second = second }) Root (table (canonical a)) ≡ None
 unfolding keys_of
 root_known false facts a = refl
 root_known true facts a = refl

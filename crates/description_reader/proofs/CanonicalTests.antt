@@ -16,7 +16,7 @@ use Rattle.description_reader.specs.KeyTable.{Key, key, key_when, keys_of, is_in
 use Rattle.description_reader.specs.Places.{key_place, item_place}
 use Rattle.description_reader.specs.Values.{items_in}
 use Rattle.description_reader.specs.declared.demand.Demand.{Demand}
-use Rattle.description_reader.specs.declared.place.Facts.{Facts}
+use Rattle.description_reader.specs.declared.place.TableFacts.{TableFacts}
 use Rattle.description_reader.specs.declared.judge.Stage.{Stage}
 use Rattle.description_reader.specs.declared.judge.Stage.TheVariants.{Keys, Needed as NeededKeys, Types, Numbers, Ranges}
 use Rattle.description_reader.specs.declared.key_table.Demands.{Demands}
@@ -101,11 +101,11 @@ where_in true f h = h refl
 where_in false f h = refl
 
 -- a key passes whose value passes where such a file has the key
-pub key_passes_in : (stage : Stage) (facts : Facts) (section : Section) (d : Data) (k : Key) (o : Option Data) → (is_in facts k.when ≡ true → Passes facts.parts k o) → get k.name d ≡ o
+pub key_passes_in : (stage : Stage) (facts : TableFacts) (section : Section) (d : Data) (k : Key) (o : Option Data) → (is_in facts k.when ≡ true → Passes facts.parts k o) → get k.name d ≡ o
     → key_fault stage facts section d k ≡ None
 key_passes_in stage facts section d k o p is = where_in (is_in facts k.when) _ (λ e. kind_passes stage facts.parts section d k o (p e) is)
 
-pub key_passes : (stage : Stage) (facts : Facts) (section : Section) (d : Data) (k : Key) (o : Option Data) → Passes facts.parts k o → get k.name d ≡ o
+pub key_passes : (stage : Stage) (facts : TableFacts) (section : Section) (d : Data) (k : Key) (o : Option Data) → Passes facts.parts k o → get k.name d ≡ o
     → key_fault stage facts section d k ≡ None
 key_passes stage facts section d k o p is = key_passes_in stage facts section d k o (λ e. p) is
 
@@ -115,7 +115,7 @@ pub passes_when : (parts : ℤ) (w : When) (name : List ℕ) (presence : Presenc
 passes_when parts w name presence types ranges o p = record { stands = p.stands; types = p.types; numbers = p.numbers; ranges = p.ranges }
 
 -- a table passes where its keys are known and the tests of each key pass
-pub table_passes : (facts : Facts) (section : Section) (ms : Members) → unknown_key facts section (table ms) ≡ None
+pub table_passes : (facts : TableFacts) (section : Section) (ms : Members) → unknown_key facts section (table ms) ≡ None
     → ((stage : Stage) → first_fault (map (key_fault stage facts section (table ms)) (keys_of section)) ≡ None)
     → (stage : Stage) → in_table stage facts section (table ms) ≡ None
 table_passes facts section ms known each Keys = known

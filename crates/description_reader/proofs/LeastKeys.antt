@@ -16,7 +16,7 @@ use Rattle.description_reader.specs.Values.{has, keys_of_members}
 use Rattle.description_reader.specs.Places.{key_place}
 use Rattle.description_reader.specs.Keys.{is_known, printed, unknown_fault}
 use Rattle.description_reader.specs.LeastKey.{IsLeastUnknown, IsOfLeast, KeysAreJudged}
-use Rattle.description_reader.specs.declared.place.Facts.{Facts}
+use Rattle.description_reader.specs.declared.place.TableFacts.{TableFacts}
 use Rattle.description_reader.specs.declared.place.Section.{Section}
 
 -- keys that the order doesn't tell apart are the same
@@ -57,7 +57,7 @@ above (member l d ms) k key before sorted h =
     let (next, here) = and_parts (is_before l ms) (is_sorted d) front in
     above_by k l key ms (below_from k l before) (above ms l key next more) (first_or_later key l d ms h)
 
-module _ (facts : Facts) (section : Section) where
+module _ (facts : TableFacts) (section : Section) where
   -- ---- no fault
   known_by : (l key : List ℕ) (ms : Members) → is_known facts section l ≡ true → (has (table ms) key ≡ true → is_known facts section key ≡ true)
       → (key ≡ l) ⊎ (has (table ms) key ≡ true) → is_known facts section key ≡ true

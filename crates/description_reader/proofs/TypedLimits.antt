@@ -26,7 +26,7 @@ use Rattle.description_reader.specs.Typed.{IsWritten, IsMeasured, measure_of, nu
 use Rattle.description_reader.specs.declared.demand.Demand.TheVariants.{Anything, Table, Between, Within, Written}
 use Rattle.description_reader.specs.declared.judge.Form.TheVariants as form
 use Rattle.description_reader.specs.declared.judge.Stage.TheVariants.{Needed, Types, Ranges}
-use Rattle.description_reader.specs.declared.place.Facts.{Facts}
+use Rattle.description_reader.specs.declared.place.TableFacts.{TableFacts}
 use Rattle.description_reader.specs.declared.place.Section.{Section}
 use Rattle.description_reader.specs.declared.place.Section.TheVariants.{Plan, PlanRoot}
 use Rattle.description_reader.proofs.CanonicalValues.{u32_back}
@@ -133,7 +133,7 @@ module _ (parts : ℤ) (section : Section) (d : Data) where
   measured_within false speed travel e f = numbers_written speed least_speed most_speed e
   measured_within true speed travel e f = numbers_within travel (pos 0) most_travel f
 
-plan_within : (facts : Facts) (d : Data) → in_table Needed facts Plan d ≡ None → in_table Ranges facts Plan d ≡ None → is_some (as_table d) ≡ true
+plan_within : (facts : TableFacts) (d : Data) → in_table Needed facts Plan d ≡ None → in_table Ranges facts Plan d ≡ None → is_some (as_table d) ≡ true
     → IsTyped (plan_in facts.timed_out facts.timed_in d)
 unfolding keys_of
 plan_within facts d needed ranges h =
@@ -148,7 +148,7 @@ plan_within facts d needed ranges h =
     }
 
 -- the root has a table `plan`
-plan_there : (facts : Facts) (root : Data) → in_table Needed facts PlanRoot root ≡ None → in_table Types facts PlanRoot root ≡ None → is_some (as_table root) ≡ true
+plan_there : (facts : TableFacts) (root : Data) → in_table Needed facts PlanRoot root ≡ None → in_table Types facts PlanRoot root ≡ None → is_some (as_table root) ≡ true
     → (is_some (get (codes "plan") root) ≡ true) × (is_some (as_table (at_key root (codes "plan"))) ≡ true)
 unfolding keys_of value_fault items_fault
 plan_there facts root needed typed h =
@@ -176,11 +176,11 @@ stands root h e =
     (plan_there facts root needed.0 types.0 h).0
 
 -- with the facts and the table as they are read
-pub limits_at : (root d : Data) (facts : Facts) → is_some (as_table root) ≡ true → plan_fault root ≡ None → facts ≡ facts_of root → Some d ≡ get (codes "plan") root
+pub limits_at : (root d : Data) (facts : TableFacts) → is_some (as_table root) ≡ true → plan_fault root ≡ None → facts ≡ facts_of root → Some d ≡ get (codes "plan") root
     → IsTyped (plan_in facts.timed_out facts.timed_in d)
 limits_at root d facts h e f g =
     let AtTable : Data → Type 0 = λ x. IsTyped (plan_in facts.timed_out facts.timed_in x) in
-    let AtFacts : Facts → Type 0 = λ x. IsTyped (plan_in x.timed_out x.timed_in (at_key root (codes "plan"))) in
+    let AtFacts : TableFacts → Type 0 = λ x. IsTyped (plan_in x.timed_out x.timed_in (at_key root (codes "plan"))) in
     let here : d ≡ at_key root (codes "plan") = ap (λ o. unwrap_or o (array no_items)) g in
     subst AtTable (sym here) (subst AtFacts (sym f) (limits root h e))
 

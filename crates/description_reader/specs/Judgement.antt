@@ -16,7 +16,7 @@ use Rattle.description_reader.specs.declared.judge.Stage.{Stage}
 use Rattle.description_reader.specs.declared.judge.Stage.TheVariants.{Keys, Needed, Types, Numbers, Ranges}
 use Rattle.description_reader.specs.declared.judge.Form.{Form}
 use Rattle.description_reader.specs.declared.judge.Form.TheVariants as form
-use Rattle.description_reader.specs.declared.place.Facts.{Facts}
+use Rattle.description_reader.specs.declared.place.TableFacts.{TableFacts}
 
 -- ---- one kind in one table
 -- the fault of one kind at one key
@@ -28,19 +28,19 @@ kind_fault Numbers parts section d k = demands_fault BadNumber parts section (nu
 kind_fault Ranges parts section d k = demands_fault OutOfRange parts section k.ranges k.name d
 
 -- where such a file has the key
-abbrev pub key_fault : Stage → Facts → Section → Data → Key → Option Fault
+abbrev pub key_fault : Stage → TableFacts → Section → Data → Key → Option Fault
 key_fault stage facts section d k = if is_in facts k.when then kind_fault stage facts.parts section d k else None
 
-abbrev pub table_fault : Stage → Facts → Section → Data → Option Fault
+abbrev pub table_fault : Stage → TableFacts → Section → Data → Option Fault
 table_fault Keys facts section d = unknown_key facts section d
 table_fault stage facts section d = first_fault (map (key_fault stage facts section d) (keys_of section))
 
 -- a value that isn't a table has no keys to look at
-abbrev pub in_table : Stage → Facts → Section → Data → Option Fault
+abbrev pub in_table : Stage → TableFacts → Section → Data → Option Fault
 in_table stage facts section d = if is_some (as_table d) then table_fault stage facts section d else None
 
 -- ---- one kind over a whole file: of a description the root, the artery, the signals in order, the links in order; of a plan the root and the plan
-abbrev pub stage_tests : Form → Stage → Facts → Data → List (Option Fault)
+abbrev pub stage_tests : Form → Stage → TableFacts → Data → List (Option Fault)
 stage_tests form.Description stage facts root =
     in_table stage facts Root root
     ∷ in_table stage facts Artery (at_key root (codes "artery"))
@@ -54,7 +54,7 @@ stage_tests form.Plan stage facts root = in_table stage facts PlanRoot root ∷ 
 abbrev pub is_timed : List ℕ → List ℕ → Data → Bool
 is_timed travel speed plan = has plan travel && not (has plan speed)
 
-abbrev pub facts_of : Data → Facts
+abbrev pub facts_of : Data → TableFacts
 facts_of root = record {
   links = length (items_in (at_key root (codes "link")));
   parts = integer_in (at_key (at_key root (codes "artery")) (codes "parts"));

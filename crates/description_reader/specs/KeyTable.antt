@@ -5,17 +5,17 @@ use Rattle.artery_model.specs.Bounds.{first_version, second_version, least_signa
 use Rattle.description_reader.specs.declared.demand.Demand.{Demand}
 use Rattle.description_reader.specs.declared.demand.Demand.TheVariants.{Anything, Table, Array, Length, Integer, Boolean, Text, Quantity, Units, Reference, Name, Between, BelowParts, Within, Written}
 use Rattle.description_reader.specs.declared.key_table.Demands.{Demands}
-use Rattle.description_reader.specs.declared.key_table.Entry.{Entry}
+use Rattle.description_reader.specs.declared.key_table.KeyEntry.{KeyEntry}
 use Rattle.description_reader.specs.declared.key_table.Presence.{Presence}
 use Rattle.description_reader.specs.declared.key_table.Presence.TheVariants.{Needed, Optional, NotLast}
 use Rattle.description_reader.specs.declared.key_table.When.{When}
 use Rattle.description_reader.specs.declared.key_table.When.TheVariants.{Always, First, Second, SpeedOut, TravelOut, SpeedIn, TravelIn}
-use Rattle.description_reader.specs.declared.place.Facts.{Facts}
+use Rattle.description_reader.specs.declared.place.TableFacts.{TableFacts}
 use Rattle.description_reader.specs.declared.place.Section.{Section}
 use Rattle.description_reader.specs.declared.place.Section.TheVariants.{Root, Artery, Signal, Link, PlanRoot, Plan}
 
 -- a file has such keys: those of each version of a description, and those of a plan's speeds and of its times of travel
-abbrev pub is_in : Facts → When → Bool
+abbrev pub is_in : TableFacts → When → Bool
 is_in facts Always = true
 is_in facts First = not facts.second
 is_in facts Second = facts.second
@@ -40,7 +40,7 @@ abbrev pub key : List ℕ → Presence → Demands → Demands → Key
 key name presence types ranges = key_when Always name presence types ranges
 
 -- the key of an entry of the code's table
-abbrev pub key_of : Entry → Key
+abbrev pub key_of : KeyEntry → Key
 key_of e = key_when e.when e.name.now e.presence e.types e.ranges
 
 -- a demand of a value, and one of each of its items, where it is an array

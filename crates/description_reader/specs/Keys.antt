@@ -11,7 +11,7 @@ use Rattle.description_reader.specs.Values.{keys_in}
 use Rattle.description_reader.specs.Places.{key_place}
 use Rattle.description_reader.specs.declared.key_table.Presence.{Presence}
 use Rattle.description_reader.specs.declared.key_table.Presence.TheVariants.{NotLast}
-use Rattle.description_reader.specs.declared.place.Facts.{Facts}
+use Rattle.description_reader.specs.declared.place.TableFacts.{TableFacts}
 use Rattle.description_reader.specs.declared.place.Section.{Section}
 use Rattle.description_reader.specs.declared.place.Section.TheVariants.{Link}
 
@@ -21,7 +21,7 @@ may_stand links (Link i) NotLast = not (i == links)
 may_stand links section presence = true
 
 -- the keys of a table
-abbrev pub is_known : Facts → Section → List ℕ → Bool
+abbrev pub is_known : TableFacts → Section → List ℕ → Bool
 is_known facts section name = list_any (λ k. is_text name k.name && is_in facts k.when && may_stand facts.links section k.presence) (keys_of section)
 
 -- letters, digits, `_` and `-`
@@ -32,9 +32,9 @@ is_key_character b = is_ascii_alphanumeric b || (b == 95 || b == 45)
 abbrev pub printed : List ℕ → List ℕ
 printed name = if in_range 1 40 (length name) && list_all is_key_character name then name else codes "?"
 
-abbrev pub unknown_fault : Facts → Section → List ℕ → Option Fault
+abbrev pub unknown_fault : TableFacts → Section → List ℕ → Option Fault
 unknown_fault facts section name = unless (is_known facts section name) kind.UnknownKey (key_place section (printed name))
 
 -- the first unknown key of a table, by the order of bytes
-abbrev pub unknown_key : Facts → Section → Data → Option Fault
+abbrev pub unknown_key : TableFacts → Section → Data → Option Fault
 unknown_key facts section d = first_fault (map (unknown_fault facts section) (keys_in d))

@@ -9,9 +9,9 @@ ghost use Rattle.description_reader.specs.Values.{at_key};
 
 use crate::check::{TableCheck, check_needed};
 use crate::demand::Demand;
-use crate::key_table::{Demands, Entry, entries, is_in};
+use crate::key_table::{Demands, KeyEntry, entries, is_in};
 use crate::keys::check_keys;
-use crate::place::{Facts, Section};
+use crate::place::{Section, TableFacts};
 use crate::values::{has, items_at, number_at, value_at};
 use artery_model::bounds::SECOND_VERSION;
 use artery_model::{Flaw, Kind};
@@ -64,7 +64,7 @@ fn numbers_of(types: Demands) -> Demands
 struct Search {
     alloc: Global,
     stage: Stage,
-    facts: Facts,
+    facts: TableFacts,
 }
 
 impl Search {
@@ -79,7 +79,7 @@ impl Search {
     }
 
     /// Refuses a table for a fault of the value at a key.
-    fn value(self, section: Section, entry: &Entry, table: &Value) -> Result<(), Flaw>
+    fn value(self, section: Section, entry: &KeyEntry, table: &Value) -> Result<(), Flaw>
         ensures { Judges result (kind_fault self.stage self.facts.parts section (view table.now) (key_of entry.now)) }
     {
         match self.stage {
@@ -101,7 +101,7 @@ impl Search {
     }
 
     /// The same at a key that such a file has.
-    fn key(self, section: Section, entry: &Entry, table: &Value) -> Result<(), Flaw>
+    fn key(self, section: Section, entry: &KeyEntry, table: &Value) -> Result<(), Flaw>
         ensures { Judges result (key_fault self.stage self.facts section (view table.now) (key_of entry.now)) }
     {
         if is_in(self.facts, entry.when) {
@@ -191,7 +191,7 @@ fn check_stage(
     alloc: Global,
     form: Form,
     stage: Stage,
-    facts: Facts,
+    facts: TableFacts,
     root: &Value,
 ) -> Result<(), Flaw>
     ensures { Judges result (first_fault (stage_tests form stage facts (view root.now))) }
@@ -226,10 +226,10 @@ fn is_timed(root: &Value, travel: &str, speed: &str) -> bool
     }
 }
 
-pub fn facts_of(root: &Value) -> Facts
+pub fn facts_of(root: &Value) -> TableFacts
     ensures { result ≡ facts_of (view root.now) }
 {
-    Facts {
+    TableFacts {
         links: items_at(root, "link").len(),
         parts: parts_of(root),
         second: number_at(root, "version") == i64::from(SECOND_VERSION),

@@ -7,7 +7,7 @@ use crate::demand::Demand::{
     self, Anything, Array, BelowParts, Between, Boolean, Integer, Length, Name, Quantity,
     Reference, Table, Text, Units, Within, Written,
 };
-use crate::place::{Facts, Section};
+use crate::place::{Section, TableFacts};
 use Presence::{Needed, NotLast, Optional};
 use When::{Always, First, Second, SpeedIn, SpeedOut, TravelIn, TravelOut};
 use artery_model::bounds::{
@@ -34,7 +34,7 @@ pub enum When {
 }
 
 /// Whether a section has such a key in this file.
-pub fn is_in(facts: Facts, when: When) -> bool
+pub fn is_in(facts: TableFacts, when: When) -> bool
     ensures { result ≡ is_in facts when }
 {
     match when {
@@ -66,7 +66,7 @@ pub struct Demands {
 
 /// A key: in which files there is one, and what its value must be, of which type and within which limits.
 #[derive(Clone, Copy)]
-pub struct Entry {
+pub struct KeyEntry {
     pub name: &'static str,
     pub when: When,
     pub presence: Presence,
@@ -107,7 +107,7 @@ macro_rules! items {
 /// A key that some files have.
 macro_rules! key_when {
     ($when:expr, $name:literal, $presence:expr, $types:expr, $ranges:expr) => {
-        Entry {
+        KeyEntry {
             name: $name,
             when: $when,
             presence: $presence,
@@ -150,7 +150,7 @@ const TRAVEL: Demand = Within(0, MOST_TRAVEL);
 const DISTANCE: Demand = Between(LEAST_DISTANCE as i64, MOST_DISTANCE as i64);
 
 /// The keys of the root of a description.
-const ROOT: [Entry; 5] = [
+const ROOT: [KeyEntry; 5] = [
     key!("version", Optional, alone!(Integer), alone!(VERSIONS)),
     key!("artery", Needed, alone!(Table), alone!(Anything)),
     key_when!(
@@ -171,7 +171,7 @@ const ROOT: [Entry; 5] = [
 ];
 
 /// The keys of the table `artery`.
-const ARTERY: [Entry; 8] = [
+const ARTERY: [KeyEntry; 8] = [
     key!("name", Optional, alone!(Text), alone!(Name)),
     key!("units", Needed, alone!(Text), alone!(Units)),
     key!("parts", Needed, alone!(Integer), alone!(PARTS)),
@@ -200,7 +200,7 @@ const ARTERY: [Entry; 8] = [
 ];
 
 /// The keys of a signal.
-const SIGNAL: [Entry; 7] = [
+const SIGNAL: [KeyEntry; 7] = [
     key!("name", Needed, alone!(Text), alone!(Name)),
     key!("red", Needed, alone!(Integer), alone!(BelowParts(1))),
     key!("left_out", Optional, alone!(Integer), alone!(BelowParts(0))),
@@ -221,7 +221,7 @@ const SIGNAL: [Entry; 7] = [
 ];
 
 /// The keys of a link.
-const LINK: [Entry; 6] = [
+const LINK: [KeyEntry; 6] = [
     key!("distance_out", Needed, alone!(Integer), alone!(DISTANCE)),
     key!("distance_in", Needed, alone!(Integer), alone!(DISTANCE)),
     key!("speed_out", Needed, TWO_QUANTITIES, items!(SPEED)),
@@ -231,7 +231,7 @@ const LINK: [Entry; 6] = [
 ];
 
 /// The keys of the root of a plan.
-const PLAN_ROOT: [Entry; 2] = [
+const PLAN_ROOT: [KeyEntry; 2] = [
     key!(
         "version",
         Optional,
@@ -242,7 +242,7 @@ const PLAN_ROOT: [Entry; 2] = [
 ];
 
 /// The keys of the table `plan`. Of each direction it has either speeds or times of travel.
-const PLAN: [Entry; 8] = [
+const PLAN: [KeyEntry; 8] = [
     key!("cycle", Needed, alone!(Quantity), alone!(CYCLE)),
     key!("offset", Needed, QUANTITIES, items!(Within(0, MOST_CYCLE))),
     key!("reference", Optional, alone!(Text), alone!(Reference)),
@@ -266,7 +266,7 @@ const PLAN: [Entry; 8] = [
 
 /// The keys of a section, in the order in which their faults are looked for. A file has those of them that are `is_in` it.
 #[tactic(auto, unfolding(crate::specs::KeyTable::keys_of))]
-pub fn entries(section: Section) -> &'static [Entry]
+pub fn entries(section: Section) -> &'static [KeyEntry]
     ensures { map key_of result.now ≡ keys_of section }
 {
     match section {

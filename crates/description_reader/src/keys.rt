@@ -8,7 +8,7 @@ ghost use Rattle.description_reader.specs.Values.{keys_of_members};
 
 use crate::check::check_at;
 use crate::key_table::{Presence, entries, is_in};
-use crate::place::{Facts, Section};
+use crate::place::{Section, TableFacts};
 use artery_model::{Flaw, Kind};
 use std::alloc::Global;
 use toml::{Table, Value};
@@ -25,7 +25,7 @@ pub fn may_stand(links: usize, section: Section, presence: Presence) -> bool
 }
 
 /// Whether a table of such a file may have the key.
-fn is_known(facts: Facts, section: Section, name: &str) -> bool
+fn is_known(facts: TableFacts, section: Section, name: &str) -> bool
     ensures { result ≡ is_known facts section name.now }
 {
     for entry in entries(section) {
@@ -59,7 +59,7 @@ fn printed(key: &str) -> &str
     }
 }
 
-fn check_key(alloc: Global, facts: Facts, section: Section, name: &str) -> Result<(), Flaw>
+fn check_key(alloc: Global, facts: TableFacts, section: Section, name: &str) -> Result<(), Flaw>
     ensures { Judges result (unknown_fault facts section name.now) }
 {
     let known = is_known(facts, section, name);
@@ -67,7 +67,12 @@ fn check_key(alloc: Global, facts: Facts, section: Section, name: &str) -> Resul
 }
 
 /// Refuses the first key of a table that no description has.
-fn check_table(alloc: Global, facts: Facts, section: Section, table: &Table) -> Result<(), Flaw>
+fn check_table(
+    alloc: Global,
+    facts: TableFacts,
+    section: Section,
+    table: &Table,
+) -> Result<(), Flaw>
     ensures { Judges result (first_fault (map (unknown_fault facts section) (keys_of_members (table_view table.now)))) }
 {
     for key in table.keys() {
@@ -77,7 +82,12 @@ fn check_table(alloc: Global, facts: Facts, section: Section, table: &Table) -> 
 }
 
 /// Refuses the first key of a table that no description has.
-pub fn check_keys(alloc: Global, facts: Facts, section: Section, value: &Value) -> Result<(), Flaw>
+pub fn check_keys(
+    alloc: Global,
+    facts: TableFacts,
+    section: Section,
+    value: &Value,
+) -> Result<(), Flaw>
     ensures { Judges result (unknown_key facts section (view value.now)) }
 {
     match value.as_table() {

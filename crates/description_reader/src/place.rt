@@ -19,7 +19,7 @@ pub enum Section {
 
 /// What the tests of one table need of the others.
 #[derive(Clone, Copy)]
-pub struct Facts {
+pub struct TableFacts {
     /// How many links are given.
     pub links: usize,
     /// How many parts the cycle has.

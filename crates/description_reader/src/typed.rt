@@ -9,7 +9,7 @@ ghost use Rattle.description_reader.specs.Typed.{measure, measured, IsMeasured, 
 use crate::build::{number_of, u32_or_zero};
 use crate::judge::{Form, check_values, facts_of};
 use crate::measure::{Measure, Reference};
-use crate::place::Facts;
+use crate::place::TableFacts;
 use crate::quantity::{integer_in, number_in};
 use crate::read::read_root;
 use crate::values::{items_at, text_at, value_at};
@@ -161,7 +161,7 @@ fn measured_at(
 }
 
 /// The plan of a table without a fault.
-fn plan_in(alloc: Global, facts: Facts, table: &Value) -> Result<TypedPlan, AllocError>
+fn plan_in(alloc: Global, facts: TableFacts, table: &Value) -> Result<TypedPlan, AllocError>
     requires { IsTyped (plan_in facts.timed_out facts.timed_in (view table.now)) }
     ensures { IfOk result (λ p. p ≡ plan_in facts.timed_out facts.timed_in (view table.now)) }
 {

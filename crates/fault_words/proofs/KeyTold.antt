@@ -10,7 +10,7 @@ use Rattle.description_reader.specs.KeyTable.{Key, keys_of, is_in}
 use Rattle.description_reader.specs.Keys.{may_stand, is_known, printed, unknown_fault}
 use Rattle.description_reader.specs.Places.{key_place}
 use Rattle.description_reader.specs.Values.{keys_in}
-use Rattle.description_reader.specs.declared.place.Facts.{Facts}
+use Rattle.description_reader.specs.declared.place.TableFacts.{TableFacts}
 use Rattle.description_reader.specs.declared.place.Section.{Section}
 use Rattle.fault_words.specs.Near.{is_here, known_key}
 use Rattle.fault_words.specs.Promises.{UnknownIsTold}
@@ -28,7 +28,7 @@ joined : (a b c : Bool) → (a && (b && c)) ≡ (a && b && c)
 joined true b c = refl
 joined false b c = refl
 
-module _ (facts : Facts) (section : Section) where
+module _ (facts : TableFacts) (section : Section) where
   abbrev fault_at : List ℕ → Fault
   fault_at name = record { kind = UnknownKey; place = key_place section (printed name) }
 

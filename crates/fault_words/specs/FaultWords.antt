@@ -12,7 +12,7 @@ use Rattle.description_reader.specs.Judgement.{facts_of}
 use Rattle.description_reader.specs.KeyTable.{Key, keys_of}
 use Rattle.description_reader.specs.Quantity.{integer_in}
 use Rattle.description_reader.specs.Values.{at_key, items_in}
-use Rattle.description_reader.specs.declared.place.Facts.{Facts}
+use Rattle.description_reader.specs.declared.place.TableFacts.{TableFacts}
 use Rattle.description_reader.specs.declared.place.Section.{Section}
 use Rattle.fault_words.specs.Examples.{sample_at, unit_in, example_in}
 use Rattle.fault_words.specs.Near.{is_here, known_key, named_key, meant_key, home_of, key_meant}
@@ -53,20 +53,20 @@ meant_line section name None = home_line (home_of section name)
 meant_line section name (Some k) = codes "the nearest key here is " ++ (k.name ++ codes "\n")
 
 -- a key of other files says why it is none of this one
-abbrev pub reason_line : Facts → Section → List ℕ → Option Key → List ℕ
+abbrev pub reason_line : TableFacts → Section → List ℕ → Option Key → List ℕ
 reason_line facts section name None = meant_line section name (meant_key facts section name)
 reason_line facts section name (Some k) = absent_line k.when
 
-abbrev pub key_here : Facts → Section → Key → List ℕ
+abbrev pub key_here : TableFacts → Section → Key → List ℕ
 key_here facts section k = if is_here facts section k then codes " " ++ k.name else []
 
-unfoldable pub keys_line : Facts → Section → List ℕ
+unfoldable pub keys_line : TableFacts → Section → List ℕ
 keys_line facts section = codes "the keys here are" ++ (flat_map (key_here facts section) (keys_of section) ++ codes "\n")
 
-unfoldable pub unknown_lines : Facts → Section → List ℕ → List ℕ
+unfoldable pub unknown_lines : TableFacts → Section → List ℕ → List ℕ
 unknown_lines facts section name = reason_line facts section name (named_key section name) ++ keys_line facts section
 
-abbrev pub key_lines : Facts → Section → List ℕ → Option Key → List ℕ
+abbrev pub key_lines : TableFacts → Section → List ℕ → Option Key → List ℕ
 key_lines facts section name None = unknown_lines facts section name
 key_lines facts section name (Some k) = known_lines facts.parts section k
 
@@ -126,24 +126,24 @@ planned root key = count_at (at_key root (codes "plan")) key
 unfoldable pub list_count : Data → List ℕ → List ℕ
 list_count root key = codes ", " ++ (key ++ (codes " " ++ decimal (planned root key)))
 
-abbrev pub out_key : Facts → List ℕ
+abbrev pub out_key : TableFacts → List ℕ
 out_key facts = if facts.timed_out then codes "travel_out" else codes "speed_out"
 
-abbrev pub back_key : Facts → List ℕ
+abbrev pub back_key : TableFacts → List ℕ
 back_key facts = if facts.timed_in then codes "travel_in" else codes "speed_in"
 
-unfoldable pub plan_counts : Facts → Data → List ℕ
+unfoldable pub plan_counts : TableFacts → Data → List ℕ
 plan_counts facts root =
     codes "counted: offset " ++ (decimal (planned root (codes "offset")) ++ (list_count root (codes "patterns") ++ (list_count root (out_key facts)
     ++ (list_count root (back_key facts) ++ codes "\n"))))
 
-abbrev pub count_lines : Document → Facts → Data → List ℕ
+abbrev pub count_lines : Document → TableFacts → Data → List ℕ
 count_lines document.Street facts root = street_counts root
 count_lines document.Plan facts root = plan_counts facts root
 
 -- ---- the whole
 -- at one place
-unfoldable pub place_words : Data → Facts → Kind → Section → List ℕ → ℕ → List ℕ
+unfoldable pub place_words : Data → TableFacts → Kind → Section → List ℕ → ℕ → List ℕ
 place_words root facts kind section key item =
     where_line root section key item
     ++ (kind_line kind
@@ -152,7 +152,7 @@ place_words root facts kind section key item =
     ++ number_lines kind facts.parts root section key)))
 
 -- at the place of a table, of a key by its path, and of an item
-abbrev pub path_words : Data → Facts → Kind → Section → List ℕ → ℕ → List ℕ
+abbrev pub path_words : Data → TableFacts → Kind → Section → List ℕ → ℕ → List ℕ
 path_words root facts kind section key item = place_words root facts kind section (key_meant kind facts section (table_of root section) key) item
 
 unfoldable pub fault_words : Document → Data → Fault → List ℕ

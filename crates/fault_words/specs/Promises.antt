@@ -16,7 +16,7 @@ use Rattle.description_reader.specs.declared.key_table.Demands.{Demands}
 use Rattle.description_reader.specs.declared.key_table.When.{When}
 use Rattle.description_reader.specs.declared.place.Section.{Section}
 use Rattle.description_reader.specs.declared.place.Section.TheVariants.{Root, Artery, Signal, Link, PlanRoot, Plan}
-use Rattle.description_reader.specs.declared.place.Facts.{Facts}
+use Rattle.description_reader.specs.declared.place.TableFacts.{TableFacts}
 use Rattle.fault_words.specs.Examples.{Sample, sample_at, unit_in}
 use Rattle.fault_words.specs.Near.{key_meant}
 use Rattle.fault_words.specs.Places.{section_at, key_at, item_at, section_number}
@@ -79,7 +79,7 @@ pub record PlacesAreTold : Type 0 where
 
 -- the key that is told of a table whose keys have a fault: that of which the fault is, whatever the path shows in its place
 pub record UnknownIsTold : Type 0 where
-  pub named : (facts : Facts) (section : Section) (d : Data) (shown : List ℕ) (f : Fault) → unknown_key facts section d ≡ Some f
+  pub named : (facts : TableFacts) (section : Section) (d : Data) (shown : List ℕ) (f : Fault) → unknown_key facts section d ≡ Some f
       → f ≡ record { kind = UnknownKey; place = key_place section (printed (key_meant UnknownKey facts section (Some d) shown)) }
 
 -- of bytes that are no text nothing beyond ASCII is told

@@ -13,7 +13,7 @@ use crate::place::{Document, table_of};
 use crate::signed::{push_parts_number, push_signed};
 use artery_model::Kind;
 use artery_model::bounds::LEAST_SIGNALS;
-use description_reader::{Facts, Section, integer_in, items_at, value_at};
+use description_reader::{Section, TableFacts, integer_in, items_at, value_at};
 use narrow_fraction::Memory;
 use quantity_text::{push_number, push_text};
 use toml::Value;
@@ -44,7 +44,7 @@ fn push_parts_at(out: &mut Vec<u8>, table: Option<&Value>, key: &str) -> Result<
 
 /// Writes how many parts the cycle has.
 #[tactic(auto, unfolding(crate::specs::FaultWords::parts_line))]
-fn push_parts_line(out: &mut Vec<u8>, facts: Facts) -> Result<(), Memory>
+fn push_parts_line(out: &mut Vec<u8>, facts: TableFacts) -> Result<(), Memory>
     ensures { OnOk result (out.new.items ≡ out.old.items ++ parts_line facts.parts) }
 {
     push_text(out, " together have to be less than the ")?;
@@ -54,7 +54,12 @@ fn push_parts_line(out: &mut Vec<u8>, facts: Facts) -> Result<(), Memory>
 
 /// Writes a red and a turn that leave no green.
 #[tactic(auto, unfolding(crate::specs::FaultWords::sum_line))]
-fn push_sum(out: &mut Vec<u8>, facts: Facts, table: Option<&Value>, key: &str) -> Result<(), Memory>
+fn push_sum(
+    out: &mut Vec<u8>,
+    facts: TableFacts,
+    table: Option<&Value>,
+    key: &str,
+) -> Result<(), Memory>
     ensures { OnOk result (out.new.items ≡ out.old.items ++ sum_line facts.parts (option_map (λ v. view v.now) table.entry) key.now) }
 {
     push_text(out, "its red of ")?;
@@ -66,7 +71,7 @@ fn push_sum(out: &mut Vec<u8>, facts: Facts, table: Option<&Value>, key: &str) -
 
 fn push_sum_at(
     out: &mut Vec<u8>,
-    facts: Facts,
+    facts: TableFacts,
     root: &Value,
     section: Section,
     key: &str,
@@ -177,7 +182,7 @@ fn push_links_if_missing(out: &mut Vec<u8>, root: &Value, key: &str) -> Result<(
 pub fn push_number_lines(
     out: &mut Vec<u8>,
     kind: Kind,
-    facts: Facts,
+    facts: TableFacts,
     root: &Value,
     section: Section,
     key: &str,
@@ -236,19 +241,19 @@ fn push_list_count(out: &mut Vec<u8>, root: &Value, key: &str) -> Result<(), Mem
     push_planned(out, root, key)
 }
 
-fn push_out_count(out: &mut Vec<u8>, facts: Facts, root: &Value) -> Result<(), Memory>
+fn push_out_count(out: &mut Vec<u8>, facts: TableFacts, root: &Value) -> Result<(), Memory>
     ensures { OnOk result (out.new.items ≡ out.old.items ++ list_count (view root.now) (out_key facts)) }
 {
     push_list_count(out, root, out_key(facts))
 }
 
-fn push_back_count(out: &mut Vec<u8>, facts: Facts, root: &Value) -> Result<(), Memory>
+fn push_back_count(out: &mut Vec<u8>, facts: TableFacts, root: &Value) -> Result<(), Memory>
     ensures { OnOk result (out.new.items ≡ out.old.items ++ list_count (view root.now) (back_key facts)) }
 {
     push_list_count(out, root, back_key(facts))
 }
 
-fn out_key(facts: Facts) -> &'static str
+fn out_key(facts: TableFacts) -> &'static str
     ensures { result.now ≡ out_key facts }
 {
     if facts.timed_out {
@@ -258,7 +263,7 @@ fn out_key(facts: Facts) -> &'static str
     }
 }
 
-fn back_key(facts: Facts) -> &'static str
+fn back_key(facts: TableFacts) -> &'static str
     ensures { result.now ≡ back_key facts }
 {
     if facts.timed_in {
@@ -269,7 +274,7 @@ fn back_key(facts: Facts) -> &'static str
 }
 
 #[tactic(auto, unfolding(crate::specs::FaultWords::plan_counts))]
-fn push_plan_counts(out: &mut Vec<u8>, facts: Facts, root: &Value) -> Result<(), Memory>
+fn push_plan_counts(out: &mut Vec<u8>, facts: TableFacts, root: &Value) -> Result<(), Memory>
     ensures { OnOk result (out.new.items ≡ out.old.items ++ plan_counts facts (view root.now)) }
 {
     push_text(out, "counted: offset ")?;
@@ -284,7 +289,7 @@ fn push_plan_counts(out: &mut Vec<u8>, facts: Facts, root: &Value) -> Result<(),
 pub fn push_counts(
     out: &mut Vec<u8>,
     document: Document,
-    facts: Facts,
+    facts: TableFacts,
     root: &Value,
 ) -> Result<(), Memory>
     ensures { OnOk result (out.new.items ≡ out.old.items ++ count_lines document facts (view root.now)) }

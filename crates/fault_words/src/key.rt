@@ -9,7 +9,7 @@ ghost use Rattle.fault_words.specs.Sentences.{other_line};
 use crate::example::{Example, example_at};
 use crate::sentence::other_line;
 use crate::wants::{push_fineness, push_wants};
-use description_reader::{Entry, Facts, Section, When};
+use description_reader::{KeyEntry, Section, TableFacts, When};
 use narrow_fraction::Memory;
 use quantity_text::push_text;
 
@@ -60,9 +60,9 @@ fn push_example(out: &mut Vec<u8>, example: Option<&Example>) -> Result<(), Memo
 #[tactic(auto, unfolding(crate::specs::FaultWords::wants_line))]
 fn push_wants_line(
     out: &mut Vec<u8>,
-    facts: Facts,
+    facts: TableFacts,
     section: Section,
-    entry: &Entry,
+    entry: &KeyEntry,
 ) -> Result<(), Memory>
     ensures { OnOk result (out.new.items ≡ out.old.items ++ wants_line facts.parts section (key_of entry.now)) }
 {
@@ -83,9 +83,9 @@ fn push_other(out: &mut Vec<u8>, when: When) -> Result<(), Memory>
 #[tactic(auto, unfolding(crate::specs::FaultWords::known_lines))]
 pub fn push_known(
     out: &mut Vec<u8>,
-    facts: Facts,
+    facts: TableFacts,
     section: Section,
-    entry: &Entry,
+    entry: &KeyEntry,
 ) -> Result<(), Memory>
     ensures { OnOk result (out.new.items ≡ out.old.items ++ known_lines facts.parts section (key_of entry.now)) }
 {

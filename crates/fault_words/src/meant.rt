@@ -7,10 +7,10 @@ ghost use Rattle.fault_words.specs.Near.{known_key, unknown_in, key_meant};
 
 use crate::near::known_key;
 use artery_model::Kind;
-use description_reader::{Facts, Section};
+use description_reader::{Section, TableFacts};
 use toml::{Table, Value};
 
-fn is_unknown(facts: Facts, section: Section, name: &str) -> bool
+fn is_unknown(facts: TableFacts, section: Section, name: &str) -> bool
     ensures { result ≡ not (is_some (known_key facts section name.now)) }
 {
     match known_key(facts, section, name) {
@@ -20,7 +20,7 @@ fn is_unknown(facts: Facts, section: Section, name: &str) -> bool
 }
 
 /// The first key of a table that isn't known.
-fn unknown_key(facts: Facts, section: Section, table: &Table) -> Option<&str>
+fn unknown_key(facts: TableFacts, section: Section, table: &Table) -> Option<&str>
     ensures { option_map (λ s. s.now) result ≡ find (λ name. not (is_some (known_key facts section name))) (keys_of_members (table_view table.now)) }
 {
     for key in table.keys() {
@@ -31,7 +31,7 @@ fn unknown_key(facts: Facts, section: Section, table: &Table) -> Option<&str>
     None
 }
 
-fn unknown_of(facts: Facts, section: Section, value: &Value) -> Option<&str>
+fn unknown_of(facts: TableFacts, section: Section, value: &Value) -> Option<&str>
     ensures { option_map (λ s. s.now) result ≡ unknown_in facts section (Some (view value.now)) }
 {
     match value.as_table() {
@@ -40,7 +40,7 @@ fn unknown_of(facts: Facts, section: Section, value: &Value) -> Option<&str>
     }
 }
 
-fn unknown_in(facts: Facts, section: Section, value: Option<&Value>) -> Option<&str>
+fn unknown_in(facts: TableFacts, section: Section, value: Option<&Value>) -> Option<&str>
     ensures { option_map (λ s. s.now) result ≡ unknown_in facts section (option_map (λ v. view v.now) value.entry) }
 {
     match value {
@@ -52,7 +52,7 @@ fn unknown_in(facts: Facts, section: Section, value: Option<&Value>) -> Option<&
 /// The key of a fault in a table.
 pub fn key_meant<'a>(
     kind: Kind,
-    facts: Facts,
+    facts: TableFacts,
     section: Section,
     table: Option<&'a Value>,
     key: &'a str,

@@ -4,7 +4,7 @@ ghost use Rattle.std.specs.Prelude.{◌≡◌, ◌&&◌, ◌||◌, not, nat_le, 
 ghost use Rattle.description_reader.specs.KeyTable.{key_of};
 ghost use Rattle.fault_words.specs.Near.{distance, most_letters, is_here, known_key, named_key, is_nearest, is_meant, meant_key};
 
-use description_reader::{Entry, Facts, Section, entries, is_in, may_stand};
+use description_reader::{KeyEntry, Section, TableFacts, entries, is_in, may_stand};
 use narrow_fraction::Memory;
 use std::alloc::Global;
 use strsim::levenshtein;
@@ -13,14 +13,14 @@ use strsim::levenshtein;
 const MOST_LETTERS: usize = 2;
 
 /// Whether a table of the section may have the key.
-pub fn is_here(facts: Facts, section: Section, entry: &Entry) -> bool
+pub fn is_here(facts: TableFacts, section: Section, entry: &KeyEntry) -> bool
     ensures { result ≡ is_here facts section (key_of entry.now) }
 {
     is_in(facts, entry.when) && may_stand(facts.links, section, entry.presence)
 }
 
 /// The key of this name that a table of the section may have.
-pub fn known_key(facts: Facts, section: Section, name: &str) -> Option<&'static Entry>
+pub fn known_key(facts: TableFacts, section: Section, name: &str) -> Option<&'static KeyEntry>
     ensures { option_map (λ e. key_of e.now) result ≡ known_key facts section name.now }
 {
     for entry in entries(section) {
@@ -32,7 +32,7 @@ pub fn known_key(facts: Facts, section: Section, name: &str) -> Option<&'static 
 }
 
 /// The key of this name that a table of the section has in some file.
-pub fn named_key(section: Section, name: &str) -> Option<&'static Entry>
+pub fn named_key(section: Section, name: &str) -> Option<&'static KeyEntry>
     ensures { option_map (λ e. key_of e.now) result ≡ named_key section name.now }
 {
     for entry in entries(section) {
@@ -52,11 +52,11 @@ fn distance(alloc: Global, name: &str, other: &str) -> Result<usize, Memory>
 /// Whether a key may not stand there, or isn't nearer.
 fn is_as_far(
     alloc: Global,
-    facts: Facts,
+    facts: TableFacts,
     section: Section,
     name: &str,
     far: usize,
-    entry: &Entry,
+    entry: &KeyEntry,
 ) -> Result<bool, Memory>
     ensures { IfOk result (λ b. b ≡ (not (is_here facts section (key_of entry.now)) || nat_le far (distance name.now entry.now.name.now))) }
 {
@@ -70,7 +70,7 @@ fn is_as_far(
 /// Whether no key that may stand there is nearer.
 fn is_nearest(
     alloc: Global,
-    facts: Facts,
+    facts: TableFacts,
     section: Section,
     name: &str,
     far: usize,
@@ -88,7 +88,7 @@ fn is_nearest(
 /// Whether a distance is little, and no key that may stand there is nearer.
 fn is_near(
     alloc: Global,
-    facts: Facts,
+    facts: TableFacts,
     section: Section,
     name: &str,
     far: usize,
@@ -105,10 +105,10 @@ fn is_near(
 /// Whether a key is near, and none that may stand there is nearer.
 fn is_meant(
     alloc: Global,
-    facts: Facts,
+    facts: TableFacts,
     section: Section,
     name: &str,
-    entry: &Entry,
+    entry: &KeyEntry,
 ) -> Result<bool, Memory>
     ensures { IfOk result (λ b. b ≡ is_meant facts section name.now (key_of entry.now)) }
 {
@@ -123,10 +123,10 @@ fn is_meant(
 #[tactic(auto, unfolding(crate::specs::Near::meant_key))]
 pub fn meant_key(
     alloc: Global,
-    facts: Facts,
+    facts: TableFacts,
     section: Section,
     name: &str,
-) -> Result<Option<&'static Entry>, Memory>
+) -> Result<Option<&'static KeyEntry>, Memory>
     ensures { IfOk result (λ found. option_map (λ e. key_of e.now) found ≡ meant_key facts section name.now) }
 {
     for entry in entries(section) {

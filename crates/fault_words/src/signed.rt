@@ -2,7 +2,7 @@
 
 ghost use Rattle.std.specs.{Prelude.{◌≡◌, ◌++◌, OnOk}, Fmt.{signed_decimal}};
 
-use description_reader::Facts;
+use description_reader::TableFacts;
 use narrow_fraction::Memory;
 use quantity_text::push_whole;
 
@@ -14,7 +14,7 @@ pub fn push_signed(out: &mut Vec<u8>, number: i64) -> Result<(), Memory>
 }
 
 /// Writes how many parts the cycle has.
-pub fn push_parts_number(out: &mut Vec<u8>, facts: Facts) -> Result<(), Memory>
+pub fn push_parts_number(out: &mut Vec<u8>, facts: TableFacts) -> Result<(), Memory>
     ensures { OnOk result (out.new.items ≡ out.old.items ++ signed_decimal facts.parts) }
 {
     push_signed(out, facts.parts)

@@ -10,7 +10,7 @@ use crate::called::heading;
 use crate::home::home_of;
 use crate::near::{is_here, meant_key, named_key};
 use crate::sentence::absent_line;
-use description_reader::{Entry, Facts, Section, entries};
+use description_reader::{KeyEntry, Section, TableFacts, entries};
 use narrow_fraction::Memory;
 use quantity_text::push_text;
 
@@ -44,7 +44,7 @@ fn push_meant(
     out: &mut Vec<u8>,
     section: Section,
     name: &str,
-    meant: Option<&Entry>,
+    meant: Option<&KeyEntry>,
 ) -> Result<(), Memory>
     ensures { OnOk result (out.new.items ≡ out.old.items ++ meant_line section name.now (option_map (λ e. key_of e.now) meant.entry)) }
 {
@@ -57,10 +57,10 @@ fn push_meant(
 /// Writes why a key of other files is none of this one, or which was meant.
 fn push_reason(
     out: &mut Vec<u8>,
-    facts: Facts,
+    facts: TableFacts,
     section: Section,
     name: &str,
-    named: Option<&Entry>,
+    named: Option<&KeyEntry>,
 ) -> Result<(), Memory>
     ensures { OnOk result (out.new.items ≡ out.old.items ++ reason_line facts section name.now (option_map (λ e. key_of e.now) named.entry)) }
 {
@@ -70,7 +70,12 @@ fn push_reason(
     }
 }
 
-fn push_nearest(out: &mut Vec<u8>, facts: Facts, section: Section, name: &str) -> Result<(), Memory>
+fn push_nearest(
+    out: &mut Vec<u8>,
+    facts: TableFacts,
+    section: Section,
+    name: &str,
+) -> Result<(), Memory>
     ensures { OnOk result (out.new.items ≡ out.old.items ++ meant_line section name.now (meant_key facts section name.now)) }
 {
     let meant = meant_key(*out.allocator(), facts, section, name)?;
@@ -86,9 +91,9 @@ fn push_key(out: &mut Vec<u8>, name: &str) -> Result<(), Memory>
 
 fn push_key_here(
     out: &mut Vec<u8>,
-    facts: Facts,
+    facts: TableFacts,
     section: Section,
-    entry: &Entry,
+    entry: &KeyEntry,
 ) -> Result<(), Memory>
     ensures { OnOk result (out.new.items ≡ out.old.items ++ key_here facts section (key_of entry.now)) }
 {
@@ -99,7 +104,7 @@ fn push_key_here(
     }
 }
 
-fn push_keys(out: &mut Vec<u8>, facts: Facts, section: Section) -> Result<(), Memory>
+fn push_keys(out: &mut Vec<u8>, facts: TableFacts, section: Section) -> Result<(), Memory>
     ensures { OnOk result (out.new.items ≡ out.old.items ++ flat_map (key_here facts section) (keys_of section)) }
 {
     for entry in entries(section) {
@@ -109,7 +114,7 @@ fn push_keys(out: &mut Vec<u8>, facts: Facts, section: Section) -> Result<(), Me
 }
 
 #[tactic(auto, unfolding(crate::specs::FaultWords::keys_line))]
-fn push_keys_line(out: &mut Vec<u8>, facts: Facts, section: Section) -> Result<(), Memory>
+fn push_keys_line(out: &mut Vec<u8>, facts: TableFacts, section: Section) -> Result<(), Memory>
     ensures { OnOk result (out.new.items ≡ out.old.items ++ keys_line facts section) }
 {
     push_text(out, "the keys here are")?;
@@ -121,7 +126,7 @@ fn push_keys_line(out: &mut Vec<u8>, facts: Facts, section: Section) -> Result<(
 #[tactic(auto, unfolding(crate::specs::FaultWords::unknown_lines))]
 pub fn push_unknown(
     out: &mut Vec<u8>,
-    facts: Facts,
+    facts: TableFacts,
     section: Section,
     name: &str,
 ) -> Result<(), Memory>

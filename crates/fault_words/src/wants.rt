@@ -7,7 +7,7 @@ ghost use Rattle.fault_words.specs.Wants.{type_words, range_word, each_words, ma
 
 use crate::signed::{push_parts_number, push_signed};
 use artery_model::bounds::{LEAST_PARTS, MOST_DENOMINATOR, MOST_NUMERATOR};
-use description_reader::{Demand, Entry, Facts};
+use description_reader::{Demand, KeyEntry, TableFacts};
 use narrow_fraction::Memory;
 use quantity_text::{push_number, push_text};
 
@@ -48,7 +48,7 @@ fn push_from(out: &mut Vec<u8>, least: i64) -> Result<(), Memory>
 }
 
 #[tactic(auto, unfolding(crate::specs::Wants::below_words))]
-fn push_below(out: &mut Vec<u8>, facts: Facts) -> Result<(), Memory>
+fn push_below(out: &mut Vec<u8>, facts: TableFacts) -> Result<(), Memory>
     ensures { OnOk result (out.new.items ≡ out.old.items ++ below_words facts.parts) }
 {
     push_text(out, " to less than the ")?;
@@ -57,7 +57,7 @@ fn push_below(out: &mut Vec<u8>, facts: Facts) -> Result<(), Memory>
 }
 
 /// The same, where the number of parts is one that a cycle may have.
-fn push_below_if_parts(out: &mut Vec<u8>, facts: Facts) -> Result<(), Memory>
+fn push_below_if_parts(out: &mut Vec<u8>, facts: TableFacts) -> Result<(), Memory>
     ensures { OnOk result (out.new.items ≡ out.old.items ++ below_if_parts facts.parts) }
 {
     if facts.parts < i64::from(LEAST_PARTS) {
@@ -68,7 +68,7 @@ fn push_below_if_parts(out: &mut Vec<u8>, facts: Facts) -> Result<(), Memory>
 }
 
 #[tactic(auto, unfolding(crate::specs::Wants::parts_words))]
-fn push_parts(out: &mut Vec<u8>, facts: Facts, least: i64) -> Result<(), Memory>
+fn push_parts(out: &mut Vec<u8>, facts: TableFacts, least: i64) -> Result<(), Memory>
     ensures { OnOk result (out.new.items ≡ out.old.items ++ parts_words facts.parts least) }
 {
     push_from(out, least)?;
@@ -157,7 +157,7 @@ fn range_word(demand: Demand) -> &'static str
 }
 
 /// Writes the limits, where the cycle has this many parts.
-fn push_range(out: &mut Vec<u8>, facts: Facts, demand: Demand) -> Result<(), Memory>
+fn push_range(out: &mut Vec<u8>, facts: TableFacts, demand: Demand) -> Result<(), Memory>
     ensures { OnOk result (out.new.items ≡ out.old.items ++ range_words facts.parts demand) }
 {
     match demand {
@@ -191,7 +191,7 @@ fn push_terms_of(out: &mut Vec<u8>, demand: Demand) -> Result<(), Memory>
 }
 
 /// Writes how fine the numbers of a key may be, where that has a limit.
-pub fn push_fineness(out: &mut Vec<u8>, entry: &Entry) -> Result<(), Memory>
+pub fn push_fineness(out: &mut Vec<u8>, entry: &KeyEntry) -> Result<(), Memory>
     ensures { OnOk result (out.new.items ≡ out.old.items ++ fineness (key_of entry.now)) }
 {
     push_terms_of(out, entry.ranges.value)?;
@@ -200,7 +200,7 @@ pub fn push_fineness(out: &mut Vec<u8>, entry: &Entry) -> Result<(), Memory>
 
 /// Writes what a key wants, where the cycle has this many parts.
 #[tactic(auto, unfolding(crate::specs::Wants::wants))]
-pub fn push_wants(out: &mut Vec<u8>, facts: Facts, entry: &Entry) -> Result<(), Memory>
+pub fn push_wants(out: &mut Vec<u8>, facts: TableFacts, entry: &KeyEntry) -> Result<(), Memory>
     ensures { OnOk result (out.new.items ≡ out.old.items ++ wants facts.parts (key_of entry.now)) }
 {
     push_type(out, entry.types.value)?;

@@ -20,7 +20,7 @@ use crate::shown::{push_key, push_value};
 use crate::text::{push_not_toml, push_not_utf8};
 use crate::unknown::push_unknown;
 use artery_model::{Kind, Refusal};
-use description_reader::{Entry, Facts, Section, facts_of};
+use description_reader::{KeyEntry, Section, TableFacts, facts_of};
 use narrow_fraction::Memory;
 use quantity_text::{push_number, push_text};
 use toml::Value;
@@ -85,7 +85,12 @@ fn push_stands_at(
     push_stands(out, value_of(root, section, key, item))
 }
 
-fn push_lines_of(out: &mut Vec<u8>, facts: Facts, section: Section, key: &str) -> Result<(), Memory>
+fn push_lines_of(
+    out: &mut Vec<u8>,
+    facts: TableFacts,
+    section: Section,
+    key: &str,
+) -> Result<(), Memory>
     ensures { OnOk result (out.new.items ≡ out.old.items ++ key_lines facts section key.now (known_key facts section key.now)) }
 {
     push_key_lines(out, facts, section, key, known_key(facts, section, key))
@@ -94,10 +99,10 @@ fn push_lines_of(out: &mut Vec<u8>, facts: Facts, section: Section, key: &str) -
 /// Writes the lines about a key.
 fn push_key_lines(
     out: &mut Vec<u8>,
-    facts: Facts,
+    facts: TableFacts,
     section: Section,
     key: &str,
-    known: Option<&Entry>,
+    known: Option<&KeyEntry>,
 ) -> Result<(), Memory>
     ensures { OnOk result (out.new.items ≡ out.old.items ++ key_lines facts section key.now (option_map (λ e. key_of e.now) known.entry)) }
 {
@@ -112,7 +117,7 @@ fn push_key_lines(
 fn push_place_words(
     out: &mut Vec<u8>,
     root: &Value,
-    facts: Facts,
+    facts: TableFacts,
     kind: Kind,
     section: Section,
     key: &str,
@@ -132,7 +137,7 @@ fn push_place_words(
 fn push_path_words(
     out: &mut Vec<u8>,
     root: &Value,
-    facts: Facts,
+    facts: TableFacts,
     kind: Kind,
     section: Section,
     key: &str,

@@ -16,7 +16,7 @@ use Rattle.street_changes.specs.declared.limits.Change.TheVariants.{AsItIs, OfSi
 use Rattle.street_changes.specs.declared.limits.StreetLimit.{StreetLimit}
 use Rattle.street_changes.specs.declared.limits.StreetLimit.TheVariants.{LeastCycle, MostCycle, LeastOut, LeastIn}
 use Rattle.street_changes.specs.Changed.{changed, each_by}
-use Rattle.limit_sensitivity.specs.declared.row.Outcome.{Outcome}
+use Rattle.limit_sensitivity.specs.declared.row.RowOutcome.{RowOutcome}
 use Rattle.limit_sensitivity.specs.declared.row.SensitivityRow.{SensitivityRow}
 use Rattle.limit_sensitivity.specs.Rows.{IsEnd, IsOutcome, IsRow}
 use Rattle.limit_sensitivity.specs.Says.{telling, SaysEnd, RowsSay, UnchangedIsTheStreet}
@@ -49,7 +49,7 @@ value_stays : (a : Street) (c : Change) (timing : Option TimingRecord) → value
 value_stays a c None = refl
 value_stays a c (Some t) = ap Some (band_stays a c t)
 
-outcome_says : (a : Street) (limit : Option ℕ) (base : Option ℚ) (c : Change) (o : Outcome) → IsOutcome (changed a c) limit o
+outcome_says : (a : Street) (limit : Option ℕ) (base : Option ℚ) (c : Change) (o : RowOutcome) → IsOutcome (changed a c) limit o
     → (spent : ℕ) × SaysFound (changed a c) limit (telling a base c) spent o.verdict (change_fields a c ++ outcome_fields a base (Some o))
 outcome_says a limit base c o h =
     let f = h.found in
@@ -57,7 +57,7 @@ outcome_says a limit base c o h =
     let said = says_found s limit (telling a base c) f.nodes.items f.timing f.bound f.spent f.verdict h.searched.search h.searched.proves h.searched.accepted in
     (f.spent, rw (h.verdict_is, h.timing_is, h.bound_is, sym (value_stays a c f.timing)) said)
 
-end_says : (a : Street) (limit : Option ℕ) (base : Option ℚ) (c : Change) (end : Option Outcome) → IsEnd (changed a c) limit end
+end_says : (a : Street) (limit : Option ℕ) (base : Option ℚ) (c : Change) (end : Option RowOutcome) → IsEnd (changed a c) limit end
     → SaysEnd a limit base c end (change_fields a c ++ outcome_fields a base end)
 end_says a limit base c None h = (h, refl)
 end_says a limit base c (Some o) h = let said = outcome_says a limit base c o h.1 in (h.0, said.0, said.1)

@@ -10,11 +10,11 @@ use Rattle.branch_tree.specs.Searched.{IsSearched}
 use Rattle.street_changes.specs.declared.limits.Change.{Change}
 use Rattle.street_changes.specs.Changes.{changes}
 use Rattle.street_changes.specs.Changed.{changed}
-use Rattle.limit_sensitivity.specs.declared.row.Outcome.{Outcome}
+use Rattle.limit_sensitivity.specs.declared.row.RowOutcome.{RowOutcome}
 use Rattle.limit_sensitivity.specs.declared.row.SensitivityRow.{SensitivityRow}
 
 -- what a search of the street within the limit found: its verdict, its timing and its bound
-pub record IsOutcome (a : Street) (limit : Option ℕ) (o : Outcome) : Type 0 where
+pub record IsOutcome (a : Street) (limit : Option ℕ) (o : RowOutcome) : Type 0 where
   pub found : Found
   pub searched : IsSearched a limit found
   pub verdict_is : o.verdict ≡ found.verdict
@@ -22,7 +22,7 @@ pub record IsOutcome (a : Street) (limit : Option ℕ) (o : Outcome) : Type 0 wh
   pub bound_is : o.bound ≡ found.bound
 
 -- nothing exactly where a description may not have the street with the change
-abbrev pub IsEnd : Street → Option ℕ → Option Outcome → Type 0
+abbrev pub IsEnd : Street → Option ℕ → Option RowOutcome → Type 0
 IsEnd a limit None = IsSome (artery_fault a)
 IsEnd a limit (Some o) = (artery_fault a ≡ None) × IsOutcome a limit o
 
@@ -35,7 +35,7 @@ abbrev pub AreRows : Street → Option ℕ → List SensitivityRow → Type 0
 AreRows a limit rows = AllZip (IsRow a limit) (changes a) rows
 
 -- ---- the weighted band of the timing that was found
-abbrev pub outcome_value : Street → Option Outcome → Option ℚ
+abbrev pub outcome_value : Street → Option RowOutcome → Option ℚ
 outcome_value a None = None
 outcome_value a (Some o) = value_of a o.timing
 

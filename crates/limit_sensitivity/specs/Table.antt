@@ -9,7 +9,7 @@ use Rattle.cycle_sweep.specs.Table.{dash, number_text, verdict_text, cause_text,
 use Rattle.table_text.specs.Cells.{name_cell}
 use Rattle.street_changes.specs.declared.limits.Change.{Change}
 use Rattle.street_changes.specs.Names.{change_word, place_text, name_text}
-use Rattle.limit_sensitivity.specs.declared.row.Outcome.{Outcome}
+use Rattle.limit_sensitivity.specs.declared.row.RowOutcome.{RowOutcome}
 use Rattle.limit_sensitivity.specs.declared.row.SensitivityRow.{SensitivityRow}
 use Rattle.limit_sensitivity.specs.Rows.{base_of}
 use Rattle.limit_sensitivity.specs.Gains.{difference, signed_spelling, exact_or_wide, decimal_or_wide}
@@ -45,7 +45,7 @@ change_fields a c = change_word c ∷ place_text c ∷ name_cell (name_text a c)
 abbrev pub told_fields : Option ℚ → List ℕ → Option ℚ → Option ℚ → List ℕ → List (List ℕ)
 told_fields base verdict weighted bound cause = verdict ∷ number_text weighted ∷ decimal_text weighted ∷ (gain_fields base weighted ++ (number_text bound ∷ cause ∷ []))
 
-abbrev pub outcome_fields : Street → Option ℚ → Option Outcome → List (List ℕ)
+abbrev pub outcome_fields : Street → Option ℚ → Option RowOutcome → List (List ℕ)
 outcome_fields a base None = told_fields base (codes "outside") None None dash
 outcome_fields a base (Some o) = told_fields base (verdict_text o.verdict) (value_of a o.timing) (bound_of o.verdict o.bound (value_of a o.timing)) (cause_text o.verdict)
 

@@ -19,6 +19,6 @@ mod table;
 
 pub use laws::{law_rows_say, law_unchanged_is_the_street};
 pub use report::sensitivity_lines;
-pub use row::{Outcome, SensitivityRow};
+pub use row::{RowOutcome, SensitivityRow};
 pub use rows::sensitivity_rows;
 pub use table::sensitivity_table;

@@ -1,15 +1,16 @@
 //! The changes with a timing, and those that gain, greatest first.
 
-ghost use Rattle.std.specs.{Prelude.{◌≡◌, ◌++◌, [], ◌∷◌, ◌≤◌, ◌^◌, pos, ◌≤ℤ◌, length, IfOk, OnOk, IfSome}, List.{position, position_or_len}};
+ghost use Rattle.std.specs.{Prelude.{◌≡◌, ◌++◌, [], ◌≤◌, ◌^◌, pos, ◌≤ℤ◌, length, IfOk, OnOk, IfSome}, List.{position, position_or_len}};
+ghost use Rattle.progression.specs.TimingRecord.{base};
 ghost use Rattle.limit_sensitivity.specs.Report.{is_less, timed_from, timed_of, all_timed, placed, with_one, ranked_onto, told};
 ghost use Rattle.limit_sensitivity.specs.Rows.{base_of, outcome_value};
 ghost use Rattle.branch_tree.specs.Certified.{value_of};
 ghost use Rattle.progression.specs.Best.{weighted_band};
 ghost use Rattle.timing_measures.specs.Measures.{cycle_seconds};
 
-use crate::row::{Outcome, SensitivityRow};
+use crate::row::{RowOutcome, SensitivityRow};
 use artery_model::Artery;
-use narrow_fraction::{Frac, Memory};
+use narrow_fraction::{Frac, Memory, push};
 use std::alloc::Global;
 use street_changes::Change;
 use time_space::{Timing, value};
@@ -17,7 +18,7 @@ use timing_measures::cycle_seconds;
 
 /// A change with the timing that was found.
 #[derive(Drop)]
-pub struct Timed {
+pub struct RankedChange {
     pub change: Change,
     /// Its weighted band.
     pub value: Frac,
@@ -25,35 +26,28 @@ pub struct Timed {
     pub cycle: Frac,
 }
 
-fn timed_by(artery: &Artery, change: Change, timing: &Timing) -> Timed
-    ensures { result ≡ record { change = change; value = weighted_band artery.now timing.now; cycle = cycle_seconds artery.now timing.now } }
+fn timed_by(artery: &Artery, change: Change, timing: &Timing) -> RankedChange
+    ensures { result ≡ record { change = change; value = weighted_band artery.now timing.now; cycle = cycle_seconds artery.now (base timing.now) } }
 {
-    Timed {
+    RankedChange {
         change,
         value: value(artery, timing),
-        cycle: cycle_seconds(artery, timing),
+        cycle: cycle_seconds(artery, timing.base()),
     }
 }
 
-fn copied(timed: &Timed) -> Timed
+fn copied(timed: &RankedChange) -> RankedChange
     ensures { result ≡ timed.now }
 {
-    Timed {
+    RankedChange {
         change: timed.change,
         value: timed.value,
         cycle: timed.cycle,
     }
 }
 
-fn push(list: &mut Vec<Timed>, timed: Timed) -> Result<(), Memory>
-    ensures { OnOk result (list.new.items ≡ list.old.items ++ timed ∷ []) }
-{
-    list.push(timed)?;
-    Ok(())
-}
-
 fn push_from(
-    list: &mut Vec<Timed>,
+    list: &mut Vec<RankedChange>,
     artery: &Artery,
     change: Change,
     timing: &Option<Timing>,
@@ -66,7 +60,11 @@ fn push_from(
     }
 }
 
-fn push_timed(list: &mut Vec<Timed>, artery: &Artery, row: &SensitivityRow) -> Result<(), Memory>
+fn push_timed(
+    list: &mut Vec<RankedChange>,
+    artery: &Artery,
+    row: &SensitivityRow,
+) -> Result<(), Memory>
     ensures { OnOk result (list.new.items ≡ list.old.items ++ timed_of artery.now row.now.change row.now.outcome) }
 {
     match &row.outcome {
@@ -75,7 +73,11 @@ fn push_timed(list: &mut Vec<Timed>, artery: &Artery, row: &SensitivityRow) -> R
     }
 }
 
-fn all_timed(alloc: Global, artery: &Artery, rows: &[SensitivityRow]) -> Result<Vec<Timed>, Memory>
+fn all_timed(
+    alloc: Global,
+    artery: &Artery,
+    rows: &[SensitivityRow],
+) -> Result<Vec<RankedChange>, Memory>
     ensures { IfOk result (λ list. list.items ≡ all_timed artery.now rows.now) }
 {
     let mut list = Vec::new(alloc);
@@ -86,7 +88,7 @@ fn all_timed(alloc: Global, artery: &Artery, rows: &[SensitivityRow]) -> Result<
 }
 
 /// Where the first with less stands.
-fn first_less(others: &[Timed], value: Frac) -> Option<usize>
+fn first_less(others: &[RankedChange], value: Frac) -> Option<usize>
     ensures { result ≡ position (λ y. is_less y.value value) others.now }
 {
     others.iter().position(|other| other.value < value)
@@ -94,7 +96,7 @@ fn first_less(others: &[Timed], value: Frac) -> Option<usize>
 
 /// The same, or the length where there is none.
 #[tactic(auto, using(crate::proofs::Places::place_or_len))]
-fn place_of(others: &[Timed], value: Frac) -> usize
+fn place_of(others: &[RankedChange], value: Frac) -> usize
     ensures place { result ≡ position_or_len (λ y. is_less y.value value) others.now }
     ensures within { result ≤ length others.now }
 {
@@ -102,7 +104,7 @@ fn place_of(others: &[Timed], value: Frac) -> usize
 }
 
 /// Puts one before the first with less.
-fn put(others: &mut Vec<Timed>, timed: Timed) -> Result<(), Memory>
+fn put(others: &mut Vec<RankedChange>, timed: RankedChange) -> Result<(), Memory>
     ensures { OnOk result (others.new.items ≡ placed timed others.old.items) }
 {
     let place = place_of(others.as_slice(), timed.value);
@@ -111,7 +113,11 @@ fn put(others: &mut Vec<Timed>, timed: Timed) -> Result<(), Memory>
 }
 
 /// Puts one where it belongs, if it gains.
-fn put_gaining(others: &mut Vec<Timed>, base: Frac, timed: Timed) -> Result<(), Memory>
+fn put_gaining(
+    others: &mut Vec<RankedChange>,
+    base: Frac,
+    timed: RankedChange,
+) -> Result<(), Memory>
     ensures { OnOk result (others.new.items ≡ with_one base timed others.old.items) }
 {
     if base < timed.value {
@@ -122,7 +128,7 @@ fn put_gaining(others: &mut Vec<Timed>, base: Frac, timed: Timed) -> Result<(), 
 }
 
 /// Those that gain, greatest first.
-fn ranked(alloc: Global, base: &Frac, all: &[Timed]) -> Result<Vec<Timed>, Memory>
+fn ranked(alloc: Global, base: &Frac, all: &[RankedChange]) -> Result<Vec<RankedChange>, Memory>
     ensures { IfOk result (λ list. list.items ≡ ranked_onto base.now [] all.now) }
 {
     let mut list = Vec::new(alloc);
@@ -138,7 +144,7 @@ pub(crate) fn told(
     artery: &Artery,
     base: &Option<Frac>,
     rows: &[SensitivityRow],
-) -> Result<Vec<Timed>, Memory>
+) -> Result<Vec<RankedChange>, Memory>
     ensures { IfOk result (λ list. list.items ≡ told base.now (all_timed artery.now rows.now)) }
 {
     let all = all_timed(alloc, artery, rows)?;
@@ -149,7 +155,7 @@ pub(crate) fn told(
 }
 
 /// The weighted band of the timing, where one was found.
-pub(crate) fn outcome_value(artery: &Artery, outcome: &Option<Outcome>) -> Option<Frac>
+pub(crate) fn outcome_value(artery: &Artery, outcome: &Option<RowOutcome>) -> Option<Frac>
     ensures value { result ≡ outcome_value artery.now outcome.now }
     ensures least { IfSome result (λ x. pos 0 ≤ℤ x.num) }
     ensures denominator { IfSome result (λ x. x.den ≤ 2 ^ 120) }

@@ -4,8 +4,8 @@ ghost use Rattle.std.specs.{Prelude.{◌≡◌, ◌++◌, ◌≤◌, ◌^◌, po
 ghost use Rattle.limit_sensitivity.specs.Report.{seconds_of, amount_text, measure_text, after_space, timed_line, verdict_line, first_outcome, base_line, rows_line, first_lines, all_timed, told, sensitivity_lines};
 
 use crate::gains::{difference, if_short, product, push_decimal_or_wide};
-use crate::ranking::{Timed, base_of, told};
-use crate::row::{Outcome, SensitivityRow};
+use crate::ranking::{RankedChange, base_of, told};
+use crate::row::{RowOutcome, SensitivityRow};
 use artery_model::Artery;
 use cycle_sweep::verdict_word;
 use narrow_fraction::{Frac, Memory};
@@ -35,7 +35,7 @@ fn push_amount(out: &mut Vec<u8>, value: &Option<Frac>, cycle: Frac) -> Result<(
     push_text(out, " s")
 }
 
-fn push_measure(out: &mut Vec<u8>, base: &Option<Frac>, timed: &Timed) -> Result<(), Memory>
+fn push_measure(out: &mut Vec<u8>, base: &Option<Frac>, timed: &RankedChange) -> Result<(), Memory>
     ensures { OnOk result (out.new.items ≡ out.old.items ++ measure_text base.now timed.now) }
 {
     match base {
@@ -65,7 +65,7 @@ fn push_timed_line(
     out: &mut Vec<u8>,
     artery: &Artery,
     base: &Option<Frac>,
-    timed: &Timed,
+    timed: &RankedChange,
 ) -> Result<(), Memory>
     ensures { OnOk result (out.new.items ≡ out.old.items ++ timed_line artery.now base.now timed.now) }
 {
@@ -85,7 +85,7 @@ fn push_timed_lines(
     out: &mut Vec<u8>,
     artery: &Artery,
     base: &Option<Frac>,
-    list: &[Timed],
+    list: &[RankedChange],
 ) -> Result<(), Memory>
     ensures { OnOk result (out.new.items ≡ out.old.items ++ flat_map (timed_line artery.now base.now) list.now) }
 {
@@ -95,7 +95,7 @@ fn push_timed_lines(
     Ok(())
 }
 
-fn push_verdict(out: &mut Vec<u8>, outcome: &Outcome) -> Result<(), Memory>
+fn push_verdict(out: &mut Vec<u8>, outcome: &RowOutcome) -> Result<(), Memory>
     ensures { OnOk result (out.new.items ≡ out.old.items ++ verdict_line (Some outcome.now)) }
 {
     push_text(out, "verdict ")?;
@@ -112,7 +112,7 @@ fn push_first_verdict(out: &mut Vec<u8>, rows: &[SensitivityRow]) -> Result<(), 
     }
 }
 
-fn push_verdict_of(out: &mut Vec<u8>, outcome: &Option<Outcome>) -> Result<(), Memory>
+fn push_verdict_of(out: &mut Vec<u8>, outcome: &Option<RowOutcome>) -> Result<(), Memory>
     ensures { OnOk result (out.new.items ≡ out.old.items ++ verdict_line outcome.now) }
 {
     match outcome {

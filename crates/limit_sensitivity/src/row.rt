@@ -7,7 +7,7 @@ use time_space::Timing;
 
 /// What a search found, without its tree.
 #[derive(Drop)]
-pub struct Outcome {
+pub struct RowOutcome {
     pub verdict: Verdict,
     pub timing: Option<Timing>,
     /// Under `Best` the timing's weighted band; under `Stopped` what no timing's exceeds.
@@ -18,5 +18,5 @@ pub struct Outcome {
 #[derive(Drop)]
 pub struct SensitivityRow {
     pub change: Change,
-    pub outcome: Option<Outcome>,
+    pub outcome: Option<RowOutcome>,
 }

@@ -1,25 +1,25 @@
 //! A search for each change.
 
-ghost use Rattle.std.specs.{Prelude.{◌≡◌, ◌++◌, [], ◌∷◌, ◌<◌, length, get_or, IfOk, OnOk}, List.{AllZip}};
+ghost use Rattle.std.specs.{Prelude.{◌≡◌, ◌<◌, length, get_or, IfOk}, List.{AllZip}};
 ghost use Rattle.work_meter.specs.Work.{IsBelow};
 ghost use Rattle.street_changes.specs.declared.limits.Change.TheVariants.{AsItIs};
 ghost use Rattle.street_changes.specs.Changed.{changed};
 ghost use Rattle.limit_sensitivity.specs.Rows.{IsOutcome, IsEnd, IsRow, AreRows};
 
-use crate::row::{Outcome, SensitivityRow};
+use crate::row::{RowOutcome, SensitivityRow};
 use artery_model::Artery;
 use branch_tree::{Found, search_and_check};
-use narrow_fraction::Memory;
+use narrow_fraction::{Memory, push};
 use std::alloc::Global;
 use street_changes::{Change, changed_artery, changes};
 
 /// What is kept of what a search found.
-fn outcome_of(found: Found) -> Outcome
+fn outcome_of(found: Found) -> RowOutcome
     ensures verdict { result.verdict ≡ found.verdict }
     ensures timing { result.timing ≡ found.timing }
     ensures bound { result.bound ≡ found.bound }
 {
-    Outcome {
+    RowOutcome {
         verdict: found.verdict,
         timing: found.timing,
         bound: found.bound,
@@ -27,7 +27,7 @@ fn outcome_of(found: Found) -> Outcome
 }
 
 /// What a search of the street finds.
-fn searched(alloc: Global, street: &Artery, limit: Option<u64>) -> Result<Outcome, Memory>
+fn searched(alloc: Global, street: &Artery, limit: Option<u64>) -> Result<RowOutcome, Memory>
     requires { IsBelow 0 limit }
     ensures { IfOk result (λ o. IsOutcome street.now limit o) }
 {
@@ -40,7 +40,7 @@ fn outcome_at(
     artery: &Artery,
     limit: Option<u64>,
     change: Change,
-) -> Result<Option<Outcome>, Memory>
+) -> Result<Option<RowOutcome>, Memory>
     requires { IsBelow 0 limit }
     ensures { IfOk result (λ o. IsEnd (changed artery.now change) limit o) }
 {
@@ -64,13 +64,6 @@ fn row_at(
         change: *change,
         outcome,
     })
-}
-
-fn push(rows: &mut Vec<SensitivityRow>, row: SensitivityRow) -> Result<(), Memory>
-    ensures { OnOk result (rows.new.items ≡ rows.old.items ++ row ∷ []) }
-{
-    rows.push(row)?;
-    Ok(())
 }
 
 /// The row of the change at this place of a list.

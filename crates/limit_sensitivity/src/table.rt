@@ -6,7 +6,7 @@ ghost use Rattle.limit_sensitivity.specs.Table.{decimal_text, gain_fields, chang
 
 use crate::gains::{difference, push_decimal_or_wide, push_exact_or_wide, push_signed};
 use crate::ranking::{base_of, timing_value};
-use crate::row::{Outcome, SensitivityRow};
+use crate::row::{RowOutcome, SensitivityRow};
 use artery_model::Artery;
 use cycle_sweep::{bound_of, cause_word, number_text, verdict_word};
 use narrow_fraction::{Frac, Memory};
@@ -121,7 +121,7 @@ fn push_told(
 }
 
 /// What no weighted band exceeds.
-fn bound_in(outcome: &Outcome, weighted: &Option<Frac>) -> Option<Frac>
+fn bound_in(outcome: &RowOutcome, weighted: &Option<Frac>) -> Option<Frac>
     ensures { result ≡ bound_of outcome.now.verdict outcome.now.bound weighted.now }
 {
     bound_of(&outcome.verdict, outcome.bound, *weighted)
@@ -132,7 +132,7 @@ fn push_outcome(
     alloc: Global,
     artery: &Artery,
     base: &Option<Frac>,
-    outcome: &Outcome,
+    outcome: &RowOutcome,
 ) -> Result<(), Memory>
     ensures { OnOk result (record.new ≡ record.old ++ outcome_fields artery.now base.now (Some outcome.now)) }
 {
@@ -148,7 +148,7 @@ fn push_found(
     alloc: Global,
     artery: &Artery,
     base: &Option<Frac>,
-    outcome: &Option<Outcome>,
+    outcome: &Option<RowOutcome>,
 ) -> Result<(), Memory>
     ensures { OnOk result (record.new ≡ record.old ++ outcome_fields artery.now base.now outcome.now) }
 {

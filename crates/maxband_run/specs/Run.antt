@@ -10,7 +10,7 @@ use Rattle.run_inputs.specs.declared.cause.Cause.{Cause}
 use Rattle.run_inputs.specs.declared.cause.Cause.TheVariants as cause
 use Rattle.run_inputs.specs.declared.found.Found.{Found}
 use Rattle.run_inputs.specs.declared.found.Unread.{Unread}
-use Rattle.run_inputs.specs.declared.reader.Reader.{Reader}
+use Rattle.run_inputs.specs.declared.reader.ReadAs.{ReadAs}
 use Rattle.run_commands.specs.Settings.{Settings, unsaid}
 use Rattle.run_commands.specs.Table.{readers, Finding, IsFound}
 use Rattle.run_commands.specs.Words.{Request}
@@ -19,7 +19,7 @@ use Rattle.maxband_run.specs.Outside.{Outside, IsDone, IsUntouched, IsBroken}
 
 -- what is asked: to read the files of these names, each by its reader, and to find this of their values and of these settings; what is put goes into this file
 pub record Question : Type 1 where
-  pub readers : List Reader
+  pub readers : List ReadAs
   pub finds : Finding readers
   pub names : List (List ℕ)
   pub output : Option (List ℕ)

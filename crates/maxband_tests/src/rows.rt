@@ -1,8 +1,8 @@
 //! The row of each command, beside its usage as it was asked for.
 
 use narrow_fraction::Memory;
-use run_commands::{Row, Setting, USAGES};
-use run_inputs::Reader;
+use run_commands::{CommandRow, Setting, USAGES};
+use run_inputs::ReadAs;
 use std::alloc::Global;
 use std::test::Fail;
 
@@ -35,15 +35,15 @@ static ROWS: [&str; 24] = [
     "--version",
 ];
 
-fn file_word(reader: Reader) -> &'static str {
+fn file_word(reader: ReadAs) -> &'static str {
     match reader {
-        Reader::Description => " STREET",
-        Reader::Timing => " TIMING",
-        Reader::Certificate => " CERT",
-        Reader::LinkCertificate => " LINKS",
-        Reader::Timed => " FILE",
-        Reader::TypedPlan => " PLAN",
-        Reader::AnyFile => " ANY",
+        ReadAs::Description => " STREET",
+        ReadAs::Timing => " TIMING",
+        ReadAs::Certificate => " CERT",
+        ReadAs::LinkCertificate => " LINKS",
+        ReadAs::Timed => " FILE",
+        ReadAs::TypedPlan => " PLAN",
+        ReadAs::AnyFile => " ANY",
     }
 }
 
@@ -61,7 +61,7 @@ fn setting_word(setting: Setting) -> &'static str {
     }
 }
 
-fn spelled(alloc: Global, row: &Row) -> Result<String, Memory> {
+fn spelled(alloc: Global, row: &CommandRow) -> Result<String, Memory> {
     let mut text = String::from_str(alloc, row.word)?;
     for reader in row.reads {
         text.push_str(file_word(*reader))?;

@@ -1,22 +1,22 @@
 //! The cases of one file, played one after the other.
 
 use crate::parts::Part;
-use crate::stage::Stage;
-use crate::steps::{Expected, Lay, Step, step_of};
+use crate::stage::CaseStage;
+use crate::steps::{CaseStep, Expected, Lay, step_of};
 use narrow_fraction::Memory;
 use std::alloc::Global;
 use std::io;
 
 /// A name with bytes: a named text, or the head of a part with its rows.
 #[derive(Drop)]
-struct Named {
+struct NamedText {
     name: String,
     bytes: Vec<u8>,
 }
 
 /// How a part ends.
 #[derive(Clone, Copy)]
-enum End {
+enum PartEnd {
     Done,
     AsExpected,
     Differs,
@@ -42,28 +42,32 @@ const NOTHING: Tally = Tally {
 #[derive(Drop)]
 pub struct Play {
     alloc: Global,
-    texts: Vec<Named>,
+    texts: Vec<NamedText>,
     /// What each case of the table begins with.
-    table: Vec<Named>,
+    table: Vec<NamedText>,
     is_in_table: bool,
-    stage: Stage,
+    stage: CaseStage,
     case: String,
     tally: Tally,
 }
 
-fn done(is_done: bool) -> End {
-    if is_done { End::Done } else { End::Unknown }
+fn done(is_done: bool) -> PartEnd {
+    if is_done {
+        PartEnd::Done
+    } else {
+        PartEnd::Unknown
+    }
 }
 
-fn with_name(alloc: Global, name: &str, bytes: &[u8]) -> Result<Named, Memory> {
-    Ok(Named {
+fn with_name(alloc: Global, name: &str, bytes: &[u8]) -> Result<NamedText, Memory> {
+    Ok(NamedText {
         name: String::from_str(alloc, name)?,
         bytes: Vec::from_slice(alloc, bytes)?,
     })
 }
 
 /// The text of a name, which is empty for no name, or nothing where there is none.
-fn text_of<'a>(texts: &'a [Named], name: &str) -> Option<&'a [u8]> {
+fn text_of<'a>(texts: &'a [NamedText], name: &str) -> Option<&'a [u8]> {
     if name.is_empty() {
         return Some(&[]);
     }
@@ -76,7 +80,12 @@ fn text_of<'a>(texts: &'a [Named], name: &str) -> Option<&'a [u8]> {
 }
 
 /// Lays something out on the stage. Whether that is done.
-fn lay_out(stage: &mut Stage, texts: &[Named], lay: Lay<'_>, rows: &[u8]) -> Result<bool, Memory> {
+fn lay_out(
+    stage: &mut CaseStage,
+    texts: &[NamedText],
+    lay: Lay<'_>,
+    rows: &[u8],
+) -> Result<bool, Memory> {
     let name = match lay {
         Lay::File { text, .. } => text,
         _ => "",
@@ -89,8 +98,8 @@ fn lay_out(stage: &mut Stage, texts: &[Named], lay: Lay<'_>, rows: &[u8]) -> Res
 
 /// Whether the stage is as expected, or nothing where something that is named isn't there.
 fn is_as_expected(
-    stage: &Stage,
-    texts: &[Named],
+    stage: &CaseStage,
+    texts: &[NamedText],
     expected: Expected<'_>,
     rows: &[u8],
 ) -> Option<bool> {
@@ -122,21 +131,21 @@ impl Play {
             texts: Vec::new(alloc),
             table: Vec::new(alloc),
             is_in_table: false,
-            stage: Stage::new(alloc),
+            stage: CaseStage::new(alloc),
             case: String::new(alloc),
             tally: NOTHING,
         }
     }
 
     /// Begins a case, with what the table has.
-    fn begin(&mut self, name: &str) -> Result<End, Memory> {
-        self.stage = Stage::new(self.alloc);
+    fn begin(&mut self, name: &str) -> Result<PartEnd, Memory> {
+        self.stage = CaseStage::new(self.alloc);
         self.case = String::from_str(self.alloc, name)?;
         self.tally.cases = self.tally.cases.saturating_add(1);
         self.is_in_table = false;
         let mut all = true;
         for part in self.table.iter() {
-            if let Some(Step::Lay(lay)) = step_of(part.name.as_str()) {
+            if let Some(CaseStep::Lay(lay)) = step_of(part.name.as_str()) {
                 let texts = self.texts.as_slice();
                 all &= lay_out(&mut self.stage, texts, lay, part.bytes.as_slice())?;
             }
@@ -144,55 +153,55 @@ impl Play {
         Ok(done(all))
     }
 
-    fn expect(&self, expected: Expected<'_>, rows: &[u8]) -> End {
+    fn expect(&self, expected: Expected<'_>, rows: &[u8]) -> PartEnd {
         match is_as_expected(&self.stage, self.texts.as_slice(), expected, rows) {
-            Some(true) => End::AsExpected,
-            Some(false) => End::Differs,
-            None => End::Unknown,
+            Some(true) => PartEnd::AsExpected,
+            Some(false) => PartEnd::Differs,
+            None => PartEnd::Unknown,
         }
     }
 
-    fn play(&mut self, part: &Part) -> Result<End, Memory> {
+    fn play(&mut self, part: &Part) -> Result<PartEnd, Memory> {
         let rows = part.rows.as_slice();
         match step_of(part.head.as_str()) {
-            Some(Step::Text(name)) => {
+            Some(CaseStep::Text(name)) => {
                 self.texts.push(with_name(self.alloc, name, rows)?)?;
-                Ok(End::Done)
+                Ok(PartEnd::Done)
             }
-            Some(Step::Table) => {
+            Some(CaseStep::Table) => {
                 self.table.clear();
                 self.is_in_table = true;
-                Ok(End::Done)
+                Ok(PartEnd::Done)
             }
-            Some(Step::Case(name)) => self.begin(name),
-            Some(Step::Lay(_)) if self.is_in_table => {
+            Some(CaseStep::Case(name)) => self.begin(name),
+            Some(CaseStep::Lay(_)) if self.is_in_table => {
                 self.table
                     .push(with_name(self.alloc, part.head.as_str(), rows)?)?;
-                Ok(End::Done)
+                Ok(PartEnd::Done)
             }
-            Some(Step::Lay(lay)) => {
+            Some(CaseStep::Lay(lay)) => {
                 let texts = self.texts.as_slice();
                 Ok(done(lay_out(&mut self.stage, texts, lay, rows)?))
             }
-            Some(Step::Run(line)) => {
+            Some(CaseStep::Run(line)) => {
                 self.stage.run(line, rows)?;
-                Ok(End::Done)
+                Ok(PartEnd::Done)
             }
-            Some(Step::Copy(from, to)) => Ok(done(self.stage.copy(from, to)?)),
-            Some(Step::Expect(expected)) => Ok(self.expect(expected, rows)),
-            None => Ok(End::Unknown),
+            Some(CaseStep::Copy(from, to)) => Ok(done(self.stage.copy(from, to)?)),
+            Some(CaseStep::Expect(expected)) => Ok(self.expect(expected, rows)),
+            None => Ok(PartEnd::Unknown),
         }
     }
 
     /// Counts how a part ended. Whether that is as it should be.
-    fn count(&mut self, end: End) -> bool {
+    fn count(&mut self, end: PartEnd) -> bool {
         match end {
-            End::Done => true,
-            End::AsExpected => {
+            PartEnd::Done => true,
+            PartEnd::AsExpected => {
                 self.tally.as_expected = self.tally.as_expected.saturating_add(1);
                 true
             }
-            End::Differs | End::Unknown => {
+            PartEnd::Differs | PartEnd::Unknown => {
                 self.tally.differing = self.tally.differing.saturating_add(1);
                 false
             }

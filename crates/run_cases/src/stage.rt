@@ -25,7 +25,7 @@ struct Draft {
 
 /// Where a case is played.
 #[derive(Drop)]
-pub struct Stage {
+pub struct CaseStage {
     alloc: Global,
     drafts: Vec<Draft>,
     failing_calls: Vec<u64>,
@@ -91,10 +91,10 @@ fn played(alloc: Global, words: Vec<String>, files: &mut MemFiles, out: &mut Mem
     number_of(run_program(alloc, Ok(words.into_iter()), files, out))
 }
 
-impl Stage {
+impl CaseStage {
     /// No files, and no call fails.
-    pub fn new(alloc: Global) -> Stage {
-        Stage {
+    pub fn new(alloc: Global) -> CaseStage {
+        CaseStage {
             alloc,
             drafts: Vec::new(alloc),
             failing_calls: Vec::new(alloc),

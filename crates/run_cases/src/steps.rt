@@ -2,7 +2,7 @@
 
 /// What a part asks for.
 #[derive(Clone, Copy)]
-pub enum Step<'a> {
+pub enum CaseStep<'a> {
     /// The rows are a text of this name.
     Text(&'a str),
     /// What is laid out from here to the next case lies there at the start of each case.
@@ -139,20 +139,20 @@ fn expectation<'a>(verb: &str, rest: &'a str) -> Option<Expected<'a>> {
 }
 
 /// What a head asks for, or nothing where it isn't understood.
-pub fn step_of(head: &str) -> Option<Step<'_>> {
+pub fn step_of(head: &str) -> Option<CaseStep<'_>> {
     let (verb, rest) = first_word(head);
     match verb {
-        "text" => Some(Step::Text(rest)),
-        "table" => Some(Step::Table),
-        "case" => Some(Step::Case(rest)),
-        "run" => Some(Step::Run(rest)),
+        "text" => Some(CaseStep::Text(rest)),
+        "table" => Some(CaseStep::Table),
+        "case" => Some(CaseStep::Case(rest)),
+        "run" => Some(CaseStep::Run(rest)),
         "copy" => {
             let (from, to) = first_word(rest);
-            Some(Step::Copy(from, to))
+            Some(CaseStep::Copy(from, to))
         }
         _ => match layout(verb, rest) {
-            Some(lay) => Some(Step::Lay(lay)),
-            None => Some(Step::Expect(expectation(verb, rest)?)),
+            Some(lay) => Some(CaseStep::Lay(lay)),
+            None => Some(CaseStep::Expect(expectation(verb, rest)?)),
         },
     }
 }

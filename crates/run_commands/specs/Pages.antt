@@ -3,13 +3,13 @@ use Rattle.std.specs.Prelude.{ℕ, ◌-◌, List, [], ◌∷◌, ◌++◌, lengt
 use Rattle.std.specs.Fmt.{decimal}
 use Rattle.run_inputs.specs.Labels.{Label, reader_label}
 use Rattle.run_inputs.specs.Reading.{most_bytes}
-use Rattle.run_inputs.specs.declared.reader.Reader.{Reader}
+use Rattle.run_inputs.specs.declared.reader.ReadAs.{ReadAs}
 use Rattle.run_commands.specs.Settings.{setting_label}
 use Rattle.run_commands.specs.Rows.{Row, Page}
 use Rattle.run_commands.specs.declared.page.TheConstants.{COMMON_LINES}
 
 -- a file that is read, with the most bytes that it may have
-abbrev pub file_label : Reader → Label
+abbrev pub file_label : ReadAs → Label
 file_label r = record { name = (reader_label r).name; text = (reader_label r).text ++ (codes ", at most " ++ (decimal (most_bytes r) ++ codes " bytes")) }
 
 -- the file that is put, where there is one

@@ -3,8 +3,8 @@ use Rattle.std.specs.Prelude.{◌≡◌, ℕ, max, List, [], ◌∷◌, Option, 
 use Rattle.run_inputs.specs.Lines.{cannot_read_line}
 use Rattle.run_inputs.specs.Reading.{Value, Values}
 use Rattle.run_inputs.specs.declared.cause.Cause.{Cause}
-use Rattle.run_inputs.specs.declared.reader.Reader.{Reader}
-use Rattle.run_inputs.specs.declared.reader.Reader.TheVariants.{Description, Timing, Certificate, LinkCertificate, Timed, TypedPlan, AnyFile}
+use Rattle.run_inputs.specs.declared.reader.ReadAs.{ReadAs}
+use Rattle.run_inputs.specs.declared.reader.ReadAs.TheVariants.{Description, Timing, Certificate, LinkCertificate, Timed, TypedPlan, AnyFile}
 use Rattle.run_commands.specs.Settings.{Settings, InLimits}
 use Rattle.run_commands.specs.Table.{readers, Finds}
 use Rattle.run_commands.specs.Words.{Request}
@@ -21,7 +21,7 @@ room_of [] = 0
 room_of (name ∷ names) = max (length (cannot_read_line name)) (room_of names)
 
 -- a value of one reader as that of another, where the two are the same
-abbrev pub value_as : (r s : Reader) → Value r → Option (Value s)
+abbrev pub value_as : (r s : ReadAs) → Value r → Option (Value s)
 value_as Description Description v = Some v
 value_as Timing Timing v = Some v
 value_as Certificate Certificate v = Some v
@@ -31,15 +31,15 @@ value_as TypedPlan TypedPlan v = Some v
 value_as AnyFile AnyFile v = Some v
 value_as r s v = None
 
-abbrev pub both : (s : Reader) (ss : List Reader) → Option (Value s) → Option (Values ss) → Option (Values (s ∷ ss))
+abbrev pub both : (s : ReadAs) (ss : List ReadAs) → Option (Value s) → Option (Values ss) → Option (Values (s ∷ ss))
 both s ss (Some v) (Some w) = Some (v, w)
 both s ss v w = None
 
-abbrev pub values_as : (rs ss : List Reader) → Values rs → Option (Values ss)
+abbrev pub values_as : (rs ss : List ReadAs) → Values rs → Option (Values ss)
 values_as [] [] v = Some tt
 values_as (r ∷ rs) (s ∷ ss) v = both s ss (value_as r s v.0) (values_as rs ss v.1)
 values_as rs ss v = None
 
 -- what a command finds of values of these readers, where they are its own
-abbrev pub FindsAs : Usage → Settings → Cause → List ℕ → Option (List ℕ) → (rs : List Reader) → Values rs → Type 0
+abbrev pub FindsAs : Usage → Settings → Cause → List ℕ → Option (List ℕ) → (rs : List ReadAs) → Values rs → Type 0
 FindsAs u s c lines put rs v = IfSome (values_as rs (readers u) v) (λ w. Finds u w s c lines put)

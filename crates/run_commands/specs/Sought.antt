@@ -9,11 +9,11 @@ use Rattle.link_theory.specs.BestLinks.{links_of}
 use Rattle.certificate_model.specs.declared.certificate.Claim.{Claim}
 use Rattle.certificate_checker.specs.Claims.{ClaimHoldsBy}
 use Rattle.run_inputs.specs.Reading.{Value}
-use Rattle.run_inputs.specs.declared.reader.Reader.{Reader}
-use Rattle.run_inputs.specs.declared.reader.Reader.TheVariants.{Certificate, LinkCertificate}
+use Rattle.run_inputs.specs.declared.reader.ReadAs.{ReadAs}
+use Rattle.run_inputs.specs.declared.reader.ReadAs.TheVariants.{Certificate, LinkCertificate}
 
 pub record Sought : Type 1 where
-  pub reader : Reader  -- of its certificates
+  pub reader : ReadAs  -- of its certificates
   pub Timing : Type 0
   pub claim : Value reader → Claim
   pub timing : Value reader → Option Timing

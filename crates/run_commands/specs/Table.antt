@@ -4,7 +4,7 @@ use Rattle.run_inputs.specs.Puts.{With}
 use Rattle.run_inputs.specs.Reading.{Values}
 use Rattle.run_inputs.specs.Status.{IsOwnAnswer}
 use Rattle.run_inputs.specs.declared.cause.Cause.{Cause}
-use Rattle.run_inputs.specs.declared.reader.Reader.{Reader}
+use Rattle.run_inputs.specs.declared.reader.ReadAs.{ReadAs}
 use Rattle.run_commands.specs.Settings.{Settings}
 use Rattle.run_commands.specs.Rows.{Row, Page, row_of, page_of}
 use Rattle.run_commands.specs.Pages.{help_line, page_text}
@@ -95,11 +95,11 @@ line_of u = help_line (row u) (page u)
 abbrev pub lines_of : Usage → List ℕ
 lines_of u = page_text (row u) (page u)
 
-abbrev pub readers : Usage → List Reader
+abbrev pub readers : Usage → List ReadAs
 readers u = (row u).reads
 
 -- what is found of the values of files and of settings: the cause, the lines, and the bytes of the file that is put, where one is
-abbrev pub Finding : List Reader → Type 1
+abbrev pub Finding : List ReadAs → Type 1
 Finding rs = Values rs → Settings → Cause → List ℕ → Option (List ℕ) → Type 0
 
 -- what each command finds

@@ -44,7 +44,7 @@ signal_lines a t offsets = flat_map (signal_line a t offsets) (range_with_len 1 
 
 -- the speeds and both bands of a timing, and its weighted band
 abbrev pub way_lines : Street → TimingRecord → List ℕ
-way_lines a t = link_lines a t ++ (band_line a t Outbound ++ (band_line a t Inbound ++ weighted_line a t))
+way_lines a t = link_lines a (base t) ++ (band_line a t Outbound ++ (band_line a t Inbound ++ weighted_line a t))
 
 -- the cycle, patterns and offsets, in seconds, what is measured of the plan's timing, and the loss
 abbrev pub whole_lines : Street → Plan → List ℕ

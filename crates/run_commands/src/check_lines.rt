@@ -212,9 +212,7 @@ pub fn push_link_rejected(
     ensures kept { OnOk result (reject.now ≢ refusal.Memory) }
     ensures line { OnOk result (out.new.items ≡ out.old.items ++ link_rejected_line signals reject.now) }
 {
-    let alloc = *out.allocator();
-    let names = link_families(alloc)?;
-    let names = names.as_slice();
+    let names = link_families();
     match reject {
         LinkReject::TimingFails(failing) => push_link_timing(out, *failing),
         LinkReject::ValueDiffers { kept, claimed } => push_value(out, *kept, *claimed),

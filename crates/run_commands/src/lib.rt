@@ -73,4 +73,4 @@ pub mod whole;
 pub use command::Command;
 pub use request::{Request, request_in, room_for_faults};
 pub use settings::{Setting, Settings};
-pub use table::{Row, USAGES, Usage};
+pub use table::{CommandRow, USAGES, Usage};

@@ -9,13 +9,13 @@ use crate::settings::Setting;
 use crate::table::Usage;
 use narrow_fraction::Memory;
 use quantity_text::{push_bytes, push_number, push_text};
-use run_inputs::Reader;
+use run_inputs::ReadAs;
 
 /// How wide the column of usages is.
 const WIDTH: usize = 46;
 
 /// Writes the names of the files that are read.
-fn push_file_names(out: &mut Vec<u8>, readers: &[Reader]) -> Result<(), Memory>
+fn push_file_names(out: &mut Vec<u8>, readers: &[ReadAs]) -> Result<(), Memory>
     ensures { OnOk result (out.new.items ≡ out.old.items ++ flat_map name_text (map file_label readers.now)) }
 {
     for reader in readers {
@@ -100,7 +100,7 @@ fn push_label(out: &mut Vec<u8>, name: &str, text: &str) -> Result<(), Memory>
 }
 
 /// Writes the line of a file that is read.
-fn push_file(out: &mut Vec<u8>, reader: Reader) -> Result<(), Memory>
+fn push_file(out: &mut Vec<u8>, reader: ReadAs) -> Result<(), Memory>
     ensures { OnOk result (out.new.items ≡ out.old.items ++ label_line (file_label reader)) }
 {
     let (name, text) = reader.label();
@@ -113,7 +113,7 @@ fn push_file(out: &mut Vec<u8>, reader: Reader) -> Result<(), Memory>
 }
 
 /// Writes the lines of the files that are read.
-fn push_files(out: &mut Vec<u8>, readers: &[Reader]) -> Result<(), Memory>
+fn push_files(out: &mut Vec<u8>, readers: &[ReadAs]) -> Result<(), Memory>
     ensures { OnOk result (out.new.items ≡ out.old.items ++ flat_map label_line (map file_label readers.now)) }
 {
     for reader in readers {

@@ -4,14 +4,14 @@ ghost use Rattle.std.specs.Prelude.{◌≡◌};
 ghost use Rattle.run_commands.specs.{Rows.{row_view, page_view}, Table.{row, page}};
 
 use crate::settings::Setting;
-use run_inputs::Reader;
+use run_inputs::ReadAs;
 
 /// A command: its first word, the files that it reads, whether the next word names a file that it may put, what the other words say, whether
 /// any of several best answers may be told, what it does, and what stands for the file that it may put.
 #[derive(Clone, Copy)]
-pub struct Row {
+pub struct CommandRow {
     pub word: &'static str,
-    pub reads: &'static [Reader],
+    pub reads: &'static [ReadAs],
     pub puts: bool,
     pub settings: &'static [Setting],
     pub chooses: bool,
@@ -84,9 +84,9 @@ pub const USAGES: [Usage; 24] = [
 ];
 
 /// The parts of a row, in this order: a constant with these has a name in `specs/`, where one of a struct that holds references has none.
-pub type Parts = (
+pub type RowParts = (
     &'static str,
-    &'static [Reader],
+    &'static [ReadAs],
     bool,
     &'static [Setting],
     bool,
@@ -97,9 +97,9 @@ pub type Parts = (
 /// Those of a page. They stand apart, since longer parts are dear to prove.
 pub type PageParts = (&'static str, &'static str, &'static str);
 
-pub const SOLVE: Parts = (
+pub const SOLVE: RowParts = (
     "solve",
-    &[Reader::Description],
+    &[ReadAs::Description],
     true,
     &[Setting::Work],
     true,
@@ -118,9 +118,9 @@ maxband solve examples/near.toml near-certificate.txt all
 ",
 );
 
-pub const CHECK: Parts = (
+pub const CHECK: RowParts = (
     "check",
-    &[Reader::Description, Reader::Certificate],
+    &[ReadAs::Description, ReadAs::Certificate],
     false,
     &[],
     false,
@@ -138,9 +138,9 @@ maxband check examples/near.toml examples/near-weak.txt
 ",
 );
 
-pub const BANDS: Parts = (
+pub const BANDS: RowParts = (
     "bands",
-    &[Reader::Description, Reader::Timing],
+    &[ReadAs::Description, ReadAs::Timing],
     false,
     &[],
     false,
@@ -158,9 +158,9 @@ maxband bands examples/broadway.toml examples/broadway-today.txt
 ",
 );
 
-pub const ROUND: Parts = (
+pub const ROUND: RowParts = (
     "round",
-    &[Reader::Description, Reader::Certificate],
+    &[ReadAs::Description, ReadAs::Certificate],
     true,
     &[],
     false,
@@ -179,9 +179,9 @@ maxband round examples/near.toml examples/near-renewed.txt near-plan.txt
 ",
 );
 
-pub const ROUND_FROM: Parts = (
+pub const ROUND_FROM: RowParts = (
     "round-from",
-    &[Reader::Description, Reader::Certificate, Reader::Timed],
+    &[ReadAs::Description, ReadAs::Certificate, ReadAs::Timed],
     true,
     &[],
     false,
@@ -200,9 +200,9 @@ maxband round-from examples/near.toml examples/near-renewed.txt examples/near-be
 ",
 );
 
-pub const WHOLE: Parts = (
+pub const WHOLE: RowParts = (
     "whole",
-    &[Reader::Description, Reader::Certificate],
+    &[ReadAs::Description, ReadAs::Certificate],
     true,
     &[Setting::WholeCycles],
     true,
@@ -221,9 +221,9 @@ maxband whole examples/near.toml examples/near-renewed.txt near-whole.txt 100
 ",
 );
 
-pub const HALF: Parts = (
+pub const HALF: RowParts = (
     "half",
-    &[Reader::Description, Reader::Timing],
+    &[ReadAs::Description, ReadAs::Timing],
     true,
     &[],
     true,
@@ -242,9 +242,9 @@ maxband half examples/school.toml examples/school-good.txt school-half.txt
 ",
 );
 
-pub const TIMING_OF: Parts = (
+pub const TIMING_OF: RowParts = (
     "timing",
-    &[Reader::Description, Reader::TypedPlan],
+    &[ReadAs::Description, ReadAs::TypedPlan],
     true,
     &[],
     false,
@@ -263,9 +263,9 @@ maxband timing examples/measured.toml examples/broadway-today.plan measured-toda
 ",
 );
 
-pub const DRAW: Parts = (
+pub const DRAW: RowParts = (
     "draw",
-    &[Reader::Description, Reader::Timed],
+    &[ReadAs::Description, ReadAs::Timed],
     true,
     &[Setting::Title],
     false,
@@ -284,9 +284,9 @@ maxband draw examples/near.toml examples/near-best.txt near.svg 'Church Street'
 ",
 );
 
-pub const SHEET: Parts = (
+pub const SHEET: RowParts = (
     "sheet",
-    &[Reader::Description, Reader::Timed],
+    &[ReadAs::Description, ReadAs::Timed],
     true,
     &[Setting::Reference],
     false,
@@ -305,9 +305,9 @@ maxband sheet examples/near.toml examples/near-best.txt near.csv green_out
 ",
 );
 
-pub const RENEW: Parts = (
+pub const RENEW: RowParts = (
     "renew",
-    &[Reader::Certificate],
+    &[ReadAs::Certificate],
     true,
     &[],
     false,
@@ -324,9 +324,9 @@ maxband renew examples/near-renewed.txt near-again.txt
 ",
 );
 
-pub const LINKS: Parts = (
+pub const LINKS: RowParts = (
     "links",
-    &[Reader::Description],
+    &[ReadAs::Description],
     true,
     &[Setting::Work],
     true,
@@ -345,9 +345,9 @@ maxband links examples/near.toml near-links.txt all
 ",
 );
 
-pub const CHECK_LINKS: Parts = (
+pub const CHECK_LINKS: RowParts = (
     "check-links",
-    &[Reader::Description, Reader::LinkCertificate],
+    &[ReadAs::Description, ReadAs::LinkCertificate],
     false,
     &[],
     false,
@@ -365,9 +365,9 @@ maxband check-links examples/near.toml examples/bridge-links.txt
 ",
 );
 
-pub const HOLD: Parts = (
+pub const HOLD: RowParts = (
     "hold",
-    &[Reader::Description, Reader::Timing],
+    &[ReadAs::Description, ReadAs::Timing],
     false,
     &[],
     false,
@@ -385,9 +385,9 @@ maxband hold examples/market.toml examples/market-queue.txt
 ",
 );
 
-pub const SHOW: Parts = (
+pub const SHOW: RowParts = (
     "show",
-    &[Reader::Description],
+    &[ReadAs::Description],
     false,
     &[],
     false,
@@ -404,9 +404,9 @@ maxband show examples/valley.toml
 ",
 );
 
-pub const EXPLAIN: Parts = (
+pub const EXPLAIN: RowParts = (
     "explain",
-    &[Reader::AnyFile],
+    &[ReadAs::AnyFile],
     false,
     &[],
     false,
@@ -424,9 +424,9 @@ maxband explain examples/near-best.txt
 ",
 );
 
-pub const NARROW: Parts = (
+pub const NARROW: RowParts = (
     "narrow",
-    &[Reader::Description],
+    &[ReadAs::Description],
     true,
     &[],
     false,
@@ -443,9 +443,9 @@ maxband solve narrowed.toml narrowed-certificate.txt
 ",
 );
 
-pub const WIDEN: Parts = (
+pub const WIDEN: RowParts = (
     "widen",
-    &[Reader::Description],
+    &[ReadAs::Description],
     true,
     &[],
     false,
@@ -462,7 +462,7 @@ maxband solve widened.toml widened-certificate.txt
 ",
 );
 
-pub const MAKE: Parts = (
+pub const MAKE: RowParts = (
     "make",
     &[],
     false,
@@ -481,7 +481,7 @@ maxband make 16 0
 ",
 );
 
-pub const TRIAL: Parts = (
+pub const TRIAL: RowParts = (
     "trial",
     &[],
     false,
@@ -502,9 +502,9 @@ maxband trial 4 7 all
 ",
 );
 
-pub const SWEEP: Parts = (
+pub const SWEEP: RowParts = (
     "sweep",
-    &[Reader::Description],
+    &[ReadAs::Description],
     true,
     &[Setting::Limit, Setting::Cycles],
     false,
@@ -521,9 +521,9 @@ maxband sweep examples/near.toml near-cycles.csv all 100
 ",
 );
 
-pub const SENSITIVITY: Parts = (
+pub const SENSITIVITY: RowParts = (
     "sensitivity",
-    &[Reader::Description],
+    &[ReadAs::Description],
     true,
     &[Setting::Limit],
     true,
@@ -540,7 +540,7 @@ maxband sensitivity examples/near.toml near-limits.csv all
 ",
 );
 
-pub const HELP: Parts = (
+pub const HELP: RowParts = (
     "--help",
     &[],
     false,
@@ -559,7 +559,7 @@ maxband --help solve
 ",
 );
 
-pub const VERSION: Parts = (
+pub const VERSION: RowParts = (
     "--version",
     &[],
     false,
@@ -579,11 +579,11 @@ maxband --help --version
 );
 
 /// The row of these parts.
-fn row_of(parts: Parts) -> Row
+fn row_of(parts: RowParts) -> CommandRow
     ensures { row_view result ≡ record { word = parts.entry.0.now; reads = parts.entry.1.now; puts = parts.entry.2; settings = parts.entry.3.now; chooses = parts.entry.4; does = parts.entry.5.now; put_name = parts.entry.6.now } }
 {
     let (word, reads, puts, settings, chooses, does, put_name) = parts;
-    Row {
+    CommandRow {
         word,
         reads,
         puts,
@@ -608,7 +608,7 @@ fn page_of(parts: PageParts) -> Page
 
 impl Usage {
     /// Its row.
-    pub fn row(self) -> Row
+    pub fn row(self) -> CommandRow
         ensures { row_view result ≡ row self }
     {
         match self {

@@ -73,7 +73,7 @@ fn push_way(out: &mut Vec<u8>, artery: &Artery, timing: &Timing) -> Result<(), M
     requires { IsBase artery.now (base timing.now) }
     ensures { OnOk result (out.new.items ≡ out.old.items ++ way_lines artery.now timing.now) }
 {
-    push_link_lines(out, artery, timing)?;
+    push_link_lines(out, artery, timing.base())?;
     push_measures(out, artery, timing)
 }
 

@@ -1,16 +1,16 @@
 -- From the reading of one file and of those behind it to that of all.
 use Rattle.std.proofs.Common.{◌≡◌, ℕ, ◌+◌, List, [], ◌∷◌, Option, inl, inr, ◌∙◌, subst}
 use Rattle.outer_edge.specs.declared.files.Files.{Ghosts}
-use Rattle.run_inputs.specs.declared.reader.Reader.{Reader}
+use Rattle.run_inputs.specs.declared.reader.ReadAs.{ReadAs}
 use Rattle.run_inputs.specs.Reading.{Value, Values, inputs, AreRead, WereRead, WasUnread, LeavesFiles}
 use Rattle.run_inputs.specs.declared.found.Unread.{Unread}
 use Rattle.run_inputs.specs.declared.found.Unread.TheVariants as stop
 use Rattle.run_inputs.proofs.Stopped.{stops_later, same_at}
 
-are_read_before : (rs : List Reader) (names : List (List ℕ)) (before mid : List ℕ → Option (List ℕ)) (v : Values rs) → mid ≡ before → AreRead rs names mid v → AreRead rs names before v
+are_read_before : (rs : List ReadAs) (names : List (List ℕ)) (before mid : List ℕ → Option (List ℕ)) (v : Values rs) → mid ≡ before → AreRead rs names mid v → AreRead rs names before v
 are_read_before rs names before mid v e h = subst (λ f. AreRead rs names f v) e h
 
-module _ {F : Type 0} {files : Ghosts F} {before mid now : F} {r : Reader} {rs : List Reader} {name : List ℕ} {names : List (List ℕ)} {v : Value r} where
+module _ {F : Type 0} {files : Ghosts F} {before mid now : F} {r : ReadAs} {rs : List ReadAs} {name : List ℕ} {names : List (List ℕ)} {v : Value r} where
   pub next_read : {vs : Values rs} → WereRead files before mid (r ∷ []) (name ∷ []) (v, tt) → LeavesFiles files before mid → WereRead files mid now rs names vs
       → WereRead files before now (r ∷ rs) (name ∷ names) (v, vs)
   next_read {vs = vs} one kept more = record {
@@ -33,7 +33,7 @@ module _ {F : Type 0} {files : Ghosts F} {before mid now : F} {r : Reader} {rs :
   }
   later_unread stop.Memory one kept u = record { told = tt; no_put = tt; memory = λ n. u.memory n ∙ one.counts n }
 
-module _ {F : Type 0} {files : Ghosts F} {before now : F} {r : Reader} {rs : List Reader} {name : List ℕ} {names : List (List ℕ)} where
+module _ {F : Type 0} {files : Ghosts F} {before now : F} {r : ReadAs} {rs : List ReadAs} {name : List ℕ} {names : List (List ℕ)} where
   -- the first isn't read
   pub first_unread : {place : ℕ} (end : Unread) → WasUnread files before now (r ∷ []) (name ∷ []) place end → WasUnread files before now (r ∷ rs) (name ∷ names) place end
   first_unread (stop.Told a) u = record { told = elim u.told [ inl h ↦ inl h | inr h ↦ absurd h.2 ]; no_put = u.no_put; memory = tt }

@@ -11,8 +11,8 @@ use Rattle.link_proof.specs.LinkWarrants.{links_of}
 use Rattle.plan_text.specs.declared.fault.BadText.{BadText}
 use Rattle.run_inputs.specs.Timed.{timed_of}
 use Rattle.run_inputs.specs.Lines.{cannot_read_line}
-use Rattle.run_inputs.specs.declared.reader.Reader.{Reader}
-use Rattle.run_inputs.specs.declared.reader.Reader.TheVariants.{Description, Timing, Certificate, LinkCertificate, Timed, TypedPlan, AnyFile}
+use Rattle.run_inputs.specs.declared.reader.ReadAs.{ReadAs}
+use Rattle.run_inputs.specs.declared.reader.ReadAs.TheVariants.{Description, Timing, Certificate, LinkCertificate, Timed, TypedPlan, AnyFile}
 use Rattle.run_inputs.specs.Reading.{HasFault, IsBadText, IsRefusedFor, Input, IsUnread, StopsReading, IsRoomForFaults}
 use Rattle.run_inputs.specs.declared.cause.Cause.{Cause}
 use Rattle.run_inputs.specs.declared.cause.Cause.TheVariants as cause
@@ -37,7 +37,7 @@ fault_stop : (refuses : List ℕ → Fault → Type 0) (x : List ℕ) (c : Cause
 fault_stop refuses x (cause.Refused f) l h = tt
 fault_stop refuses x c l h = absurd h
 
-refused_stop : (r : Reader) (x : List ℕ) (c : Cause) (l : List ℕ) → IsRefusedFor r x c l → IsStop c
+refused_stop : (r : ReadAs) (x : List ℕ) (c : Cause) (l : List ℕ) → IsRefusedFor r x c l → IsStop c
 refused_stop Description x c l h = fault_stop RefusedAs x c l h
 refused_stop Timing x c l h = bad_text_stop timing_of x c l h
 refused_stop Certificate x c l h = bad_text_stop certificate_of x c l h

@@ -1,7 +1,7 @@
 -- What stands for a word in a usage, and what that word is.
 use Rattle.std.specs.Prelude.{ℕ, List}
-use Rattle.run_inputs.specs.declared.reader.Reader.{Reader}
-use Rattle.run_inputs.specs.declared.reader.Reader.TheVariants as reader
+use Rattle.run_inputs.specs.declared.reader.ReadAs.{ReadAs}
+use Rattle.run_inputs.specs.declared.reader.ReadAs.TheVariants as reader
 use Rattle.run_inputs.specs.declared.reader.TheConstants.{DESCRIPTION, TIMING, CERTIFICATE, LINK_CERTIFICATE, TIMED, TYPED_PLAN, ANY_FILE}
 
 pub record Label : Type 0 where
@@ -15,7 +15,7 @@ abbrev pub label : Text × Text → Label
 label p = record { name = p.0.now; text = p.1.now }
 
 -- of a file that is read so
-abbrev pub reader_label : Reader → Label
+abbrev pub reader_label : ReadAs → Label
 reader_label reader.Description = label DESCRIPTION
 reader_label reader.Timing = label TIMING
 reader_label reader.Certificate = label CERTIFICATE

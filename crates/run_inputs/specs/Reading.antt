@@ -16,8 +16,8 @@ use Rattle.plan_text.specs.declared.fault.BadText.{BadText}
 use Rattle.link_proof.specs.LinkWarrants.{LinkWarrant, links_of}
 use Rattle.run_inputs.specs.Timed.{timed_of, is_certificate}
 use Rattle.run_inputs.specs.Lines.{refused_line, bad_text_line, cannot_read_line, too_long_line}
-use Rattle.run_inputs.specs.declared.reader.Reader.{Reader}
-use Rattle.run_inputs.specs.declared.reader.Reader.TheVariants.{Description, Timing, Certificate, LinkCertificate, Timed, TypedPlan, AnyFile}
+use Rattle.run_inputs.specs.declared.reader.ReadAs.{ReadAs}
+use Rattle.run_inputs.specs.declared.reader.ReadAs.TheVariants.{Description, Timing, Certificate, LinkCertificate, Timed, TypedPlan, AnyFile}
 use Rattle.run_inputs.specs.declared.found.Found.{Found}
 use Rattle.run_inputs.specs.declared.found.Unread.{Unread}
 use Rattle.run_inputs.specs.declared.found.Unread.TheVariants as unread
@@ -26,7 +26,7 @@ use Rattle.run_inputs.specs.declared.cause.Cause.TheVariants as cause
 
 -- ---- readers
 -- what a file is read as
-abbrev pub Value : Reader → Type 0
+abbrev pub Value : ReadAs → Type 0
 Value Description = Street
 Value Timing = TimingRecord
 Value Certificate = Warrant
@@ -43,7 +43,7 @@ abbrev pub most_certified : ℕ
 most_certified = 268435456
 
 -- the most bytes of such a file
-abbrev pub most_bytes : Reader → ℕ
+abbrev pub most_bytes : ReadAs → ℕ
 most_bytes Description = most_described
 most_bytes Timing = 1048576
 most_bytes Certificate = most_certified
@@ -53,12 +53,12 @@ most_bytes TypedPlan = 1048576
 most_bytes AnyFile = most_certified
 
 -- the bytes are too many for what they begin with: where any file is read, only a certificate may have more than a description
-abbrev pub IsLongFor : Reader → List ℕ → Type 0
+abbrev pub IsLongFor : ReadAs → List ℕ → Type 0
 IsLongFor AnyFile bytes = (most_described < length bytes) × (is_certificate bytes ≡ false)
 IsLongFor r bytes = ⊥
 
 -- which value the bytes are read as
-abbrev pub IsReadAs : (r : Reader) → List ℕ → Value r → Type 0
+abbrev pub IsReadAs : (r : ReadAs) → List ℕ → Value r → Type 0
 IsReadAs Description bytes a = Described bytes a
 IsReadAs Timing bytes t = timing_of bytes ≡ Ok t
 IsReadAs Certificate bytes w = certificate_of bytes ≡ Ok w
@@ -78,7 +78,7 @@ IsBadText reads bytes (cause.BadText b) lines = (reads bytes ≡ Err b) × (line
 IsBadText reads bytes c lines = ⊥
 
 -- for which cause and with which line the bytes are refused
-abbrev pub IsRefusedFor : Reader → List ℕ → Cause → List ℕ → Type 0
+abbrev pub IsRefusedFor : ReadAs → List ℕ → Cause → List ℕ → Type 0
 IsRefusedFor Description bytes c lines = HasFault RefusedAs bytes c lines
 IsRefusedFor Timing bytes c lines = IsBadText timing_of bytes c lines
 IsRefusedFor Certificate bytes c lines = IsBadText certificate_of bytes c lines
@@ -89,14 +89,14 @@ IsRefusedFor AnyFile bytes c lines = ⊥
 
 -- ---- one file
 pub record Input : Type 0 where
-  pub reader : Reader
+  pub reader : ReadAs
   pub name : List ℕ
 
-abbrev pub input : Reader → List ℕ → Input
+abbrev pub input : ReadAs → List ℕ → Input
 input r n = record { reader = r; name = n }
 
 -- files of these names, each with its reader
-abbrev pub inputs : List Reader → List (List ℕ) → List Input
+abbrev pub inputs : List ReadAs → List (List ℕ) → List Input
 inputs [] names = []
 inputs (r ∷ rs) [] = []
 inputs (r ∷ rs) (name ∷ names) = input r name ∷ inputs rs names
@@ -115,11 +115,11 @@ abbrev pub Describes : Option (List ℕ) → Street → Type 0
 Describes held a = HasBytes most_described held (λ bytes. Described bytes a)
 
 -- the file is within its limit and is read as this
-abbrev pub Reads : (r : Reader) → Option (List ℕ) → Value r → Type 0
+abbrev pub Reads : (r : ReadAs) → Option (List ℕ) → Value r → Type 0
 Reads r held v = HasBytes (most_bytes r) held (λ bytes. IsReadAs r bytes v)
 
 -- one more byte than the limit was taken, or the file is too long for what it begins with
-abbrev pub IsTooLong : Reader → Option (List ℕ) → Type 0
+abbrev pub IsTooLong : ReadAs → Option (List ℕ) → Type 0
 IsTooLong r held = BeginsWith (most_bytes r + 1) held ⊎ HasBytes (most_bytes r) held (IsLongFor r)
 
 -- Why the file that a command reads at this place isn't read, and the line of that. A read failed and was counted; or the file is too long; or
@@ -132,12 +132,12 @@ IsUnread i place held before after c lines = SameCounts before after × HasBytes
 
 -- ---- all files
 -- a value for each reader
-abbrev pub Values : List Reader → Type 0
+abbrev pub Values : List ReadAs → Type 0
 Values [] = Unit {0}
 Values (r ∷ rs) = Value r × Values rs
 
 -- the file of each name is read as its value
-abbrev pub AreRead : (rs : List Reader) → List (List ℕ) → (List ℕ → Option (List ℕ)) → Values rs → Type 0
+abbrev pub AreRead : (rs : List ReadAs) → List (List ℕ) → (List ℕ → Option (List ℕ)) → Values rs → Type 0
 AreRead [] names held v = Unit {0}
 AreRead (r ∷ rs) [] held v = ⊥
 AreRead (r ∷ rs) (name ∷ names) held v = Reads r (held name) v.0 × AreRead rs names held v.1
@@ -166,7 +166,7 @@ pub record LeavesFiles {F : Type 0} (files : Ghosts F) (before now : F) : Type 0
   pub puts : SameCounts (files.put_faults before) (files.put_faults now)
 
 -- these files were read as their values, and no read failed
-pub record WereRead {F : Type 0} (files : Ghosts F) (before now : F) (rs : List Reader) (names : List (List ℕ)) (values : Values rs) : Type 0 where
+pub record WereRead {F : Type 0} (files : Ghosts F) (before now : F) (rs : List ReadAs) (names : List (List ℕ)) (values : Values rs) : Type 0 where
   pub read : AreRead rs names (files.holds before) values
   pub counts : SameCounts (files.read_faults before) (files.read_faults now)
 
@@ -176,12 +176,12 @@ end_of (unread.Told a) = Ok a
 end_of unread.Memory = Err (record {})
 
 -- One of these files, of which the first is read at this place, wasn't read: what tells why, without bytes to be put, or want of memory where no read failed.
-pub record WasUnread {F : Type 0} (files : Ghosts F) (before now : F) (rs : List Reader) (names : List (List ℕ)) (place : ℕ) (end : Unread) : Type 0 where
+pub record WasUnread {F : Type 0} (files : Ghosts F) (before now : F) (rs : List ReadAs) (names : List (List ℕ)) (place : ℕ) (end : Unread) : Type 0 where
   pub told : IfOk (end_of end) (λ a. StopsReading (inputs rs names) place (files.holds before) (files.read_faults before) (files.read_faults now) a.cause a.lines.items)
   pub no_put : IfOk (end_of end) (λ a. a.bytes ≡ None)
   pub memory : OnErr (end_of end) (SameCounts (files.read_faults before) (files.read_faults now))
 
 -- what neither reads nor puts leaves the files just as they were
-abbrev pub LeavesAlone : {F : Type 0} → List Reader → Option (List ℕ) → F → F → Type 0
+abbrev pub LeavesAlone : {F : Type 0} → List ReadAs → Option (List ℕ) → F → F → Type 0
 LeavesAlone [] None before now = now ≡ before
 LeavesAlone readers output before now = Unit {0}

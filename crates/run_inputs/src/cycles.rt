@@ -1,13 +1,13 @@
 //! The cycles among the words.
 
-ghost use Rattle.std.specs.{Prelude.{◌≡◌, ◌++◌, ℕ, List, Option, [], ◌∷◌, true, All, IfOk, IfSome, OnOk, map, string_bytes}, List.{list_all}};
+ghost use Rattle.std.specs.{Prelude.{◌≡◌, ℕ, List, Option, true, All, IfOk, IfSome, map, string_bytes}, List.{list_all}};
 ghost use Rattle.artery_model.specs.{Bounds.{least_cycle, most_cycle}, Valid.{IsQuantity}};
 ghost use Rattle.run_inputs.specs.Cycles.{cycle_of, seconds_of, spells, are_spelled, Spell, AreSpelled};
 ghost use Rattle.run_inputs.specs.Cycles as cycles;
 
 use crate::numbers::number_within;
 use cycle_sweep::is_cycle;
-use narrow_fraction::{Frac, Memory};
+use narrow_fraction::{Frac, Memory, push};
 use quantity_text::parse_quantity;
 use std::alloc::Global;
 
@@ -78,13 +78,6 @@ pub fn are_spelled<T: Cycle>(words: &[String]) -> bool
     ensures { result ≡ are_spelled T.value (map string_bytes words.now) }
 {
     1 <= words.len() && words.len() <= MOST_CYCLES && all_spelled::<T>(words)
-}
-
-fn push<T: Cycle>(cycles: &mut Vec<T>, cycle: T) -> Result<(), Memory>
-    ensures { OnOk result (cycles.new.items ≡ cycles.old.items ++ cycle ∷ []) }
-{
-    cycles.push(cycle)?;
-    Ok(())
 }
 
 /// The cycle of a word that spells one.

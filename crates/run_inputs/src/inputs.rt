@@ -3,7 +3,7 @@
 ghost use Rattle.std.specs.Prelude.{◌≡◌, ◌+◌, ◌<◌, List, [], ◌∷◌, None, IfOk, IfErr, OnOk, length, map, string_bytes};
 ghost use Rattle.outer_edge.specs.Counts.{SameCounts};
 ghost use Rattle.run_inputs.specs.Reading.{Values, most_bytes, end_of, IsWithinLimit, LeavesFiles, LeavesAlone, WereRead, WasUnread};
-ghost use Rattle.run_inputs.specs.declared.reader.Reader.{Reader};
+ghost use Rattle.run_inputs.specs.declared.reader.ReadAs.{ReadAs};
 ghost use Rattle.run_inputs.specs.Lines.{too_long_line};
 
 use crate::cause::Cause;
@@ -70,7 +70,7 @@ fn read_at<T: Readable, F: Files>(
 /// Values that files are read as, the first in the first place: `(Artery, (Timing, ()))` are an artery and a timing.
 pub trait Inputs: Drop {
     /// Their readers.
-    ghost readers: { List Reader };
+    ghost readers: { List ReadAs };
 
     /// The values, as these readers have them.
     ghost values: { Self → Values readers };

@@ -4,7 +4,7 @@
 //! The numbers among the words have one definition, digits without a leading zero between a least and a most (`specs/Numbers.antt`);
 //! the limit of work is one of these or none, by the word `all`. The cycles of a sweep are quantities (`specs/Cycles.antt`).
 //!
-//! What a file is read as and refused for goes by its `Reader` (`specs/Reading.antt`), and what it is not read for is one relation: it
+//! What a file is read as and refused for goes by its `ReadAs` (`specs/Reading.antt`), and what it is not read for is one relation: it
 //! has bytes within the limit that describe the artery, are read as the timing or certificate, or are refused as just this (`HasBytes`);
 //! or one byte more than the limit was taken, with which the file begins; or a read failed and was counted. These bytes are the file's
 //! where it tells them; where it tells none, as the system's files don't, all that is said is that there are such bytes. A file is
@@ -31,4 +31,4 @@ pub use inputs::Inputs;
 pub use lines::{bad_text_line, cannot_read_bytes, push_numbered, refused_line, words_line};
 pub use numbers::{USUAL_WORK, limit_in, seed_in, signals_in};
 pub use readable::{AnyFile, Readable, Timed};
-pub use reader::{Label, Reader};
+pub use reader::{Label, ReadAs};

@@ -3,13 +3,13 @@
 ghost use Rattle.std.specs.Prelude.{◌≡◌, ◌↔◌, ◌<◌, ◌^◌, None, IfOk, IfErr, IsTrue};
 ghost use Rattle.run_inputs.specs.{Lines.{refused_line, bad_text_line}, Timed.{is_timing, is_certificate}};
 ghost use Rattle.run_inputs.specs.Reading.{Value, most_bytes, end_of, IsReadAs, IsRefusedFor, IsLongFor};
-ghost use Rattle.run_inputs.specs.declared.reader.Reader.{Reader};
-ghost use Rattle.run_inputs.specs.declared.reader.Reader.TheVariants as reader;
+ghost use Rattle.run_inputs.specs.declared.reader.ReadAs.{ReadAs};
+ghost use Rattle.run_inputs.specs.declared.reader.ReadAs.TheVariants as reader;
 
 use crate::cause::Cause;
 use crate::found::{Unread, told};
 use crate::lines::{bad_text_line, refused_line};
-use crate::reader::{Reader, SHORT_FILE};
+use crate::reader::{ReadAs, SHORT_FILE};
 use artery_model::{Artery, Flaw, Refusal};
 use description_reader::{TypedPlan, read_artery, read_plan};
 use link_proof::{LinkCertificate, read_links};
@@ -20,7 +20,7 @@ use time_space::Timing;
 /// A value that a file is read as.
 pub trait Readable: Drop {
     /// The kind of such files.
-    ghost reader: { Reader };
+    ghost reader: { ReadAs };
 
     /// The value, as that kind has it.
     ghost value: { Self → Value reader };
@@ -73,7 +73,7 @@ impl Readable for Artery {
     ghost value = { λ a. a };
 
     fn most_bytes() -> u64 {
-        Reader::Description.most_bytes()
+        ReadAs::Description.most_bytes()
     }
 
     fn are_too_many(_bytes: &[u8]) -> bool {
@@ -96,7 +96,7 @@ impl Readable for TypedPlan {
     ghost value = { λ p. p };
 
     fn most_bytes() -> u64 {
-        Reader::TypedPlan.most_bytes()
+        ReadAs::TypedPlan.most_bytes()
     }
 
     fn are_too_many(_bytes: &[u8]) -> bool {
@@ -118,7 +118,7 @@ impl Readable for Timing {
     ghost value = { λ t. t };
 
     fn most_bytes() -> u64 {
-        Reader::Timing.most_bytes()
+        ReadAs::Timing.most_bytes()
     }
 
     fn are_too_many(_bytes: &[u8]) -> bool {
@@ -140,7 +140,7 @@ impl Readable for Certificate {
     ghost value = { λ w. w };
 
     fn most_bytes() -> u64 {
-        Reader::Certificate.most_bytes()
+        ReadAs::Certificate.most_bytes()
     }
 
     fn are_too_many(_bytes: &[u8]) -> bool {
@@ -175,7 +175,7 @@ impl Readable for Timed {
     ghost value = { λ t. t.timing };
 
     fn most_bytes() -> u64 {
-        Reader::Timed.most_bytes()
+        ReadAs::Timed.most_bytes()
     }
 
     fn are_too_many(_bytes: &[u8]) -> bool {
@@ -202,7 +202,7 @@ impl Readable for LinkCertificate {
     ghost value = { λ w. w };
 
     fn most_bytes() -> u64 {
-        Reader::LinkCertificate.most_bytes()
+        ReadAs::LinkCertificate.most_bytes()
     }
 
     fn are_too_many(_bytes: &[u8]) -> bool {
@@ -239,7 +239,7 @@ impl Readable for AnyFile {
     ghost value = { λ file. file.bytes.items };
 
     fn most_bytes() -> u64 {
-        Reader::AnyFile.most_bytes()
+        ReadAs::AnyFile.most_bytes()
     }
 
     fn are_too_many(bytes: &[u8]) -> bool {

@@ -5,7 +5,7 @@ ghost use Rattle.run_inputs.specs.{Labels.{reader_label}, Reading.{most_bytes}};
 
 /// As what a file is read.
 #[derive(Clone, Copy)]
-pub enum Reader {
+pub enum ReadAs {
     /// The description of an artery.
     Description,
     Timing,
@@ -49,20 +49,20 @@ pub(crate) const SHORT_FILE: u64 = 1_048_576;
 /// The most bytes of a certificate of either kind.
 const LONG_FILE: u64 = 268_435_456;
 
-impl Reader {
+impl ReadAs {
     /// What stands for such a file in a usage, and what it is.
     pub fn label(self) -> Label
         ensures name { result.0.now ≡ (reader_label self).name }
         ensures text { result.1.now ≡ (reader_label self).text }
     {
         match self {
-            Reader::Description => DESCRIPTION,
-            Reader::Timing => TIMING,
-            Reader::Certificate => CERTIFICATE,
-            Reader::LinkCertificate => LINK_CERTIFICATE,
-            Reader::Timed => TIMED,
-            Reader::TypedPlan => TYPED_PLAN,
-            Reader::AnyFile => ANY_FILE,
+            ReadAs::Description => DESCRIPTION,
+            ReadAs::Timing => TIMING,
+            ReadAs::Certificate => CERTIFICATE,
+            ReadAs::LinkCertificate => LINK_CERTIFICATE,
+            ReadAs::Timed => TIMED,
+            ReadAs::TypedPlan => TYPED_PLAN,
+            ReadAs::AnyFile => ANY_FILE,
         }
     }
 
@@ -72,9 +72,9 @@ impl Reader {
         ensures few { result < 2 ^ 63 }
     {
         match self {
-            Reader::Description | Reader::Timing | Reader::TypedPlan => SHORT_FILE,
-            Reader::Certificate | Reader::LinkCertificate => LONG_FILE,
-            Reader::Timed | Reader::AnyFile => LONG_FILE,
+            ReadAs::Description | ReadAs::Timing | ReadAs::TypedPlan => SHORT_FILE,
+            ReadAs::Certificate | ReadAs::LinkCertificate => LONG_FILE,
+            ReadAs::Timed | ReadAs::AnyFile => LONG_FILE,
         }
     }
 }

@@ -36,7 +36,7 @@ record IsInSeconds (a : Street) (p : TimingRecord) (k scale : ℕ) (offsets : Li
   first : slice_index offsets 0 ≡ 0
 
 module _ (a : Street) (p : TimingRecord) (k scale : ℕ) (offsets : List ℕ) (valid : IsValid a) (h : IsInSeconds a p k scale offsets) where
-  seconds_of : cycle_seconds a p ≡ number k
+  seconds_of : cycle_seconds a (base p) ≡ number k
   seconds_of = ap₂ (λ c g. over (pos c) g) h.cycle h.grid ∙ over_times k scale h.above
 
   red_is : (i : ℕ) → HasSignal a i → common_red (base p) i ≡ pos (slice_index offsets (i - 1) * scale)
@@ -57,7 +57,7 @@ module _ (a : Street) (p : TimingRecord) (k scale : ℕ) (offsets : List ℕ) (v
       ∙ ap₂ (λ x y. since (k * scale) x y) first_red (red_is i has)
       ∙ mod_unique (pos (n * scale) -ℤ pos 0) (pos 0) (k * scale) (n * scale) (omega (arith, ints)) (omega (arith, room, above))
 
-  offset_of : (i : ℕ) → HasSignal a i → offset a p i ≡ number (slice_index offsets (i - 1))
+  offset_of : (i : ℕ) → HasSignal a i → offset a (base p) i ≡ number (slice_index offsets (i - 1))
   offset_of i has = ap₂ (λ n g. over (pos n) g) (ticks_after i has) h.grid ∙ over_times (slice_index offsets (i - 1)) scale h.above
 
 -- ---- a plan of `second_plan`
@@ -90,10 +90,10 @@ module _ (a : Street) (b : BaseRecord) (p : TimingRecord) (k : ℕ) (offsets : L
     first = nearest_begins a b k offsets valid given h.whole.rounded;
   }
 
-  pub cycle_told : cycle_seconds a p ≡ number k
+  pub cycle_told : cycle_seconds a (base p) ≡ number k
   cycle_told = seconds_of a p k scale offsets valid in_seconds
 
-  pub offset_told : (i : ℕ) → HasSignal a i → offset a p i ≡ number (slice_index offsets (i - 1))
+  pub offset_told : (i : ℕ) → HasSignal a i → offset a (base p) i ≡ number (slice_index offsets (i - 1))
   offset_told = offset_of a p k scale offsets valid in_seconds
 
 -- ---- a plan of `whole_offsets`
@@ -117,8 +117,8 @@ module _ (a : Street) (b : BaseRecord) (p : TimingRecord) (k : ℕ) (offsets : L
     first = h.within.first;
   }
 
-  pub whole_cycle_told : cycle_seconds a p ≡ number k
+  pub whole_cycle_told : cycle_seconds a (base p) ≡ number k
   whole_cycle_told = seconds_of a p k p.grid offsets valid whole_in_seconds
 
-  pub whole_offset_told : (i : ℕ) → HasSignal a i → offset a p i ≡ number (slice_index offsets (i - 1))
+  pub whole_offset_told : (i : ℕ) → HasSignal a i → offset a (base p) i ≡ number (slice_index offsets (i - 1))
   whole_offset_told = offset_of a p k p.grid offsets valid whole_in_seconds

@@ -22,7 +22,7 @@ use Rattle.certificate_checker.specs.Laws.{RefusedIsNotAccepted, OneFirstRefusal
 use Rattle.link_proof.specs.LinkLaws.{LinkRefusedIsNotAccepted, OneFirstLinkRefusal}
 use Rattle.branch_and_bound.specs.declared.found.Verdict.{Verdict}
 use Rattle.branch_and_bound.specs.declared.found.Verdict.TheVariants.{Best, NoTiming, Stopped}
-use Rattle.branch_tree.specs.declared.site.SitePart.{SitePart}
+use Rattle.box_search.specs.declared.site.SitePart.{SitePart}
 use Rattle.workload_maker.specs.Made.{made_street}
 use Rattle.artery_model.specs.Faults.{fault_of}
 use Rattle.description_reader.specs.Typed.{Typed}
@@ -34,7 +34,7 @@ use Rattle.run_inputs.specs.Lines.{refused_line}
 use Rattle.run_commands.specs.Lines.{fails_line}
 use Rattle.run_inputs.specs.Puts.{NamedBytes, put_of, With}
 use Rattle.run_inputs.specs.Reading.{Value, Values}
-use Rattle.run_inputs.specs.declared.reader.Reader.{Reader}
+use Rattle.run_inputs.specs.declared.reader.ReadAs.{ReadAs}
 use Rattle.run_commands.specs.Searched.{cause_of}
 use Rattle.run_commands.specs.Hold.{HoldFinds, IsJudged, verdict_line}
 use Rattle.run_commands.specs.Show.{Shows}
@@ -451,13 +451,13 @@ module _ (reader : OneReading) (one_text : OneText) (one_first : OneFirst) (rule
       record { cause = h.2.cause_is ∙ sym k.2.cause_is; lines = lines_alike usage.Sweep c x y (h.2.lines_are ∙ sym k.2.lines_are); put = name_alike output s t h.0 k.0 h.1 k.1 }
 
 -- files that stop the reading in one way
-pub stops_agree : (chooses : Bool) (rs : List Reader) (same verdicts : Type 0) → (rs ≡ [] → ⊥) → same → Agree chooses rs same verdicts
+pub stops_agree : (chooses : Bool) (rs : List ReadAs) (same verdicts : Type 0) → (rs ≡ [] → ⊥) → same → Agree chooses rs same verdicts
 stops_agree false rs same verdicts n e = e
 stops_agree true [] same verdicts n e = absurd (n refl)
 stops_agree true (r ∷ rs) same verdicts n e = inl e
 
 -- what agrees in one way does in another that follows from it
-pub agree_by : (chooses : Bool) (rs : List Reader) (same also verdicts : Type 0) → (same → also) → Agree chooses rs same verdicts → Agree chooses rs also verdicts
+pub agree_by : (chooses : Bool) (rs : List ReadAs) (same also verdicts : Type 0) → (same → also) → Agree chooses rs same verdicts → Agree chooses rs also verdicts
 agree_by false rs same also verdicts f e = f e
 agree_by true [] same also verdicts f e = e
 agree_by true (r ∷ rs) same also verdicts f (inl e) = inl (f e)

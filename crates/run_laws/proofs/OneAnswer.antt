@@ -14,7 +14,7 @@ use Rattle.second_plan.specs.Ends.{PlanOrEnd, OnePlan}
 use Rattle.std.specs.Prelude.{if◌then◌else◌}
 use Rattle.run_inputs.specs.Puts.{NamedBytes, put_of}
 use Rattle.run_inputs.specs.Reading.{inputs, Values, StopsReading}
-use Rattle.run_inputs.specs.declared.reader.Reader.{Reader}
+use Rattle.run_inputs.specs.declared.reader.ReadAs.{ReadAs}
 use Rattle.run_commands.specs.Table.{row, readers, Finds}
 use Rattle.run_commands.specs.Words.{Request, request_of}
 use Rattle.maxband_run.specs.Run.{question}
@@ -25,7 +25,7 @@ use Rattle.run_laws.proofs.Once.{put_same, lines_alike, Alike, finds_once, stops
 use Rattle.run_laws.proofs.Asking.{PutsAsAsked, words_put}
 
 -- where there is no file no reading stops
-some_file : (held : List ℕ → Option (List ℕ)) (before after : List ℕ → ℕ) (rs : List Reader) (names : List (List ℕ)) (c : Cause) (l : List ℕ)
+some_file : (held : List ℕ → Option (List ℕ)) (before after : List ℕ → ℕ) (rs : List ReadAs) (names : List (List ℕ)) (c : Cause) (l : List ℕ)
     → StopsReading (inputs rs names) 1 held before after c l → rs ≡ [] → ⊥
 some_file held before after [] names c l h e = h
 some_file held before after (r ∷ rs) names c l h e = absurd cc

@@ -24,7 +24,7 @@ use Rattle.plan_text.specs.Reading.{timing_of}
 use Rattle.run_laws.specs.Asked as ask
 use Rattle.maxband_run.specs.Outside.{Outside}
 use Rattle.run_inputs.specs.Reading.{Reads}
-use Rattle.run_inputs.specs.declared.reader.Reader.TheVariants.{Description, Timing, Timed}
+use Rattle.run_inputs.specs.declared.reader.ReadAs.TheVariants.{Description, Timing, Timed}
 use Rattle.run_commands.specs.Hold.{HoldFinds}
 use Rattle.maxband_run.specs.Run.{Ends}
 use Rattle.run_laws.specs.PlanLaws.{PutsPlan, PutsOwnPlan, PutsOtherPlan, RoundSays, RoundFromSays, PlanIsHeld}

@@ -29,7 +29,7 @@ use Rattle.run_commands.specs.Shaped.{TimedFinds}
 use Rattle.run_commands.specs.Draw.{drawn_lines, picture_of}
 use Rattle.run_commands.specs.Sheet.{sheet_lines, table_of}
 use Rattle.run_inputs.specs.Reading.{Reads}
-use Rattle.run_inputs.specs.declared.reader.Reader.TheVariants.{Description, Timed, TypedPlan}
+use Rattle.run_inputs.specs.declared.reader.ReadAs.TheVariants.{Description, Timed, TypedPlan}
 use Rattle.maxband_run.specs.Run.{Ends}
 use Rattle.run_commands.specs.Sought.{whole_bands}
 use Rattle.run_commands.specs.Checked.{whole_checked}

@@ -11,7 +11,7 @@ use Rattle.run_laws.specs.Asked as ask
 use Rattle.run_inputs.specs.Puts.{put_of}
 use Rattle.maxband_run.specs.Outside.{Outside, IsPut}
 use Rattle.run_inputs.specs.Reading.{Value, IsReadAs, Reads}
-use Rattle.run_inputs.specs.declared.reader.Reader.TheVariants.{Description}
+use Rattle.run_inputs.specs.declared.reader.ReadAs.TheVariants.{Description}
 use Rattle.run_commands.specs.Sought.{Sought, whole_bands, bands_of_links}
 use Rattle.run_commands.specs.Checked.{Checked, whole_checked, links_checked}
 use Rattle.run_commands.specs.Check.{Accepts, Checks}

@@ -6,7 +6,7 @@ use Rattle.outer_edge.specs.Taken.{Appends}
 use Rattle.run_inputs.specs.Puts.{NamedBytes, put_of}
 use Rattle.maxband_run.specs.Outside.{Outside, IsPut, IsDone}
 use Rattle.run_inputs.specs.Reading.{Value, inputs, most_bytes, IsReadAs, Reads, Values, AreRead, AreTold}
-use Rattle.run_inputs.specs.declared.reader.Reader.{Reader}
+use Rattle.run_inputs.specs.declared.reader.ReadAs.{ReadAs}
 use Rattle.maxband_run.specs.Run.{Question, Answers, Answered, Ends}
 use Rattle.run_commands.specs.Ends.{IsVerdict}
 use Rattle.run_inputs.specs.Status.{IsReached}
@@ -42,7 +42,7 @@ is_put before now name text lines put bytes e f h = subst (λ (o : Option (List 
     (subst (λ (p : Option NamedBytes). IsPut p before.holds now.holds) e h.files)
 
 -- a file that holds a text is read as what the text is read as
-pub reads_put : (r : Reader) (o : Option (List ℕ)) (text : List ℕ) (v : Value r) → IsSome o → IfSome o (λ bytes. length bytes ≤ most_bytes r) → HoldsExactly o text → IsReadAs r text v → Reads r o v
+pub reads_put : (r : ReadAs) (o : Option (List ℕ)) (text : List ℕ) (v : Value r) → IsSome o → IfSome o (λ bytes. length bytes ≤ most_bytes r) → HoldsExactly o text → IsReadAs r text v → Reads r o v
 reads_put r None text v told few h is = absurd cc
 reads_put r (Some x) text v told few h is = told_has (most_bytes r) x (λ y. IsReadAs r y v) (few, subst (λ y. IsReadAs r y v) (sym h) is)
 

@@ -13,8 +13,8 @@ use Rattle.plan_text.specs.declared.fault.BadText.{BadText}
 use Rattle.run_inputs.specs.Timed.{timed_of}
 use Rattle.run_inputs.specs.Lines.{refused_line, bad_text_line, too_long_line}
 use Rattle.run_inputs.specs.Reading.{HasFault, IsBadText, Value}
-use Rattle.run_inputs.specs.declared.reader.Reader.{Reader}
-use Rattle.run_inputs.specs.declared.reader.Reader.TheVariants.{Description, Timing, Certificate, LinkCertificate, Timed, TypedPlan, AnyFile}
+use Rattle.run_inputs.specs.declared.reader.ReadAs.{ReadAs}
+use Rattle.run_inputs.specs.declared.reader.ReadAs.TheVariants.{Description, Timing, Certificate, LinkCertificate, Timed, TypedPlan, AnyFile}
 use Rattle.run_inputs.specs.Reading.{input, inputs, most_bytes, IsReadAs, IsRefusedFor, IsLongFor, IsTooLong, Input, HasBytes, Reads, IsUnread, Values, AreRead, StopsReading, AreTold}
 use Rattle.run_inputs.specs.Status.{IsReached}
 use Rattle.run_inputs.specs.declared.cause.Cause.{Cause}
@@ -41,22 +41,22 @@ some_of (Some x) s = (x, refl)
 too_long : (n : ℕ) (x : List ℕ) → BeginsWith (n + 1) (Some x) → n < length x
 too_long n x b = omega (arith, b.long, b.begins.inside)
 
-reads_told : (r : Reader) (o : Option (List ℕ)) (x : List ℕ) (v : Value r) → o ≡ Some x → Reads r o v → (length x ≤ most_bytes r) × IsReadAs r x v
+reads_told : (r : ReadAs) (o : Option (List ℕ)) (x : List ℕ) (v : Value r) → o ≡ Some x → Reads r o v → (length x ≤ most_bytes r) × IsReadAs r x v
 reads_told r o x v e h = has_told (most_bytes r) x (λ y. IsReadAs r y v) (subst (λ k. HasBytes (most_bytes r) k (λ y. IsReadAs r y v)) e h)
 
 -- more bytes than the limit, or too many for what they begin with
-abbrev IsLong : Reader → List ℕ → Type 0
+abbrev IsLong : ReadAs → List ℕ → Type 0
 IsLong r x = (most_bytes r < length x) ⊎ IsLongFor r x
 
-long_told : (r : Reader) (o : Option (List ℕ)) (x : List ℕ) → o ≡ Some x → IsTooLong r o → IsLong r x
+long_told : (r : ReadAs) (o : Option (List ℕ)) (x : List ℕ) → o ≡ Some x → IsTooLong r o → IsLong r x
 long_told r o x e (inl h) = inl (too_long (most_bytes r) x (subst (λ k. BeginsWith (most_bytes r + 1) k) e h))
 long_told r o x e (inr h) = inr (has_told (most_bytes r) x (IsLongFor r) (subst (λ k. HasBytes (most_bytes r) k (IsLongFor r)) e h)).1
 
-value_long : (r : Reader) (x : List ℕ) (v : Value r) → IsReadAs r x v → IsLongFor r x → ⊥
+value_long : (r : ReadAs) (x : List ℕ) (v : Value r) → IsReadAs r x v → IsLongFor r x → ⊥
 value_long AnyFile x v h l = h.1 l
 value_long r x v h l = absurd l
 
-refused_long : (r : Reader) (x : List ℕ) (c : Cause) (lines : List ℕ) → IsRefusedFor r x c lines → IsLongFor r x → ⊥
+refused_long : (r : ReadAs) (x : List ℕ) (c : Cause) (lines : List ℕ) → IsRefusedFor r x c lines → IsLongFor r x → ⊥
 refused_long AnyFile x c lines h l = h
 refused_long r x c lines h l = absurd l
 
@@ -72,7 +72,7 @@ unread_told i place held before after x cause.Memory lines e n h = absurd n
 unread_told i place held before after x c lines e n h =
     inl (has_told (most_bytes i.reader) x (λ y. IsRefusedFor i.reader y c lines) (subst (λ o. HasBytes (most_bytes i.reader) o (λ y. IsRefusedFor i.reader y c lines)) e h.1))
 
-refused_apart : (r : Reader) (x : List ℕ) (c : Cause) (lines : List ℕ) → length x ≤ most_bytes r → IsRefusedFor r x c lines → IsLong r x → ⊥
+refused_apart : (r : ReadAs) (x : List ℕ) (c : Cause) (lines : List ℕ) → length x ≤ most_bytes r → IsRefusedFor r x c lines → IsLong r x → ⊥
 refused_apart r x c lines few h (inl more) = omega (arith, few, more)
 refused_apart r x c lines few h (inr long) = refused_long r x c lines h long
 
@@ -105,7 +105,7 @@ pub record OneReading : Type 0 where
 
 module _ (reader : OneReading) where
   -- ---- the readers
-  one_value : (r : Reader) (x : List ℕ) (u v : Value r) → IsReadAs r x u → IsReadAs r x v → u ≡ v
+  one_value : (r : ReadAs) (x : List ℕ) (u v : Value r) → IsReadAs r x u → IsReadAs r x v → u ≡ v
   one_value Description x u v h k = reader.street.artery x u v h k
   one_value Timing x u v h k = same_ok u v (sym h ∙ k)
   one_value Certificate x u v h k = same_ok u v (sym h ∙ k)
@@ -114,7 +114,7 @@ module _ (reader : OneReading) where
   one_value TypedPlan x u v h k = reader.plan.plan x u v h k
   one_value AnyFile x u v h k = h.0 ∙ sym k.0
 
-  value_apart : (r : Reader) (x : List ℕ) (v : Value r) (c : Cause) (lines : List ℕ) → IsReadAs r x v → IsRefusedFor r x c lines → ⊥
+  value_apart : (r : ReadAs) (x : List ℕ) (v : Value r) (c : Cause) (lines : List ℕ) → IsReadAs r x v → IsRefusedFor r x c lines → ⊥
   value_apart Description x v c lines h k = fault_apart described.RefusedAs x c lines (λ f r. reader.street.apart x v f h r) k
   value_apart Timing x v c lines h k = text_apart timing_of x v c lines h k
   value_apart Certificate x v c lines h k = text_apart certificate_of x v c lines h k
@@ -123,7 +123,7 @@ module _ (reader : OneReading) where
   value_apart TypedPlan x v c lines h k = fault_apart typed.GivesNone x c lines (λ f r. reader.plan.apart x v f h r) k
   value_apart AnyFile x v c lines h k = k
 
-  one_refusal : (r : Reader) (x : List ℕ) (c d : Cause) (l m : List ℕ) → IsRefusedFor r x c l → IsRefusedFor r x d m → (c ≡ d) × (l ≡ m)
+  one_refusal : (r : ReadAs) (x : List ℕ) (c d : Cause) (l m : List ℕ) → IsRefusedFor r x c l → IsRefusedFor r x d m → (c ≡ d) × (l ≡ m)
   one_refusal Description x c d l m h k = one_fault described.RefusedAs x (reader.street.fault x) c d l m h k
   one_refusal Timing x c d l m h k = one_bad_text timing_of x c d l m h k
   one_refusal Certificate x c d l m h k = one_bad_text certificate_of x c d l m h k
@@ -133,7 +133,7 @@ module _ (reader : OneReading) where
   one_refusal AnyFile x c d l m h k = absurd h
 
   -- ---- one file
-  pub one_read : (r : Reader) (o : Option (List ℕ)) (u v : Value r) → IsSome o → Reads r o u → Reads r o v → u ≡ v
+  pub one_read : (r : ReadAs) (o : Option (List ℕ)) (u v : Value r) → IsSome o → Reads r o u → Reads r o v → u ≡ v
   one_read r o u v told h k = let s = some_of o told in
       one_value r s.0 u v (reads_told r o s.0 u s.1 h).1 (reads_told r o s.0 v s.1 k).1
 
@@ -174,14 +174,14 @@ module _ (reader : OneReading) where
     one_stop (i ∷ is) place c d l m told n o (inr h) (inr k) = one_stop is (place + 1) c d l m told.1 n o h.2 k.2
 
     -- files that are all read don't end the run
-    pub all_apart : (rs : List Reader) (names : List (List ℕ)) (place : ℕ) (v : Values rs) (c : Cause) (l : List ℕ) → AreTold held (inputs rs names) → IsReached c
+    pub all_apart : (rs : List ReadAs) (names : List (List ℕ)) (place : ℕ) (v : Values rs) (c : Cause) (l : List ℕ) → AreTold held (inputs rs names) → IsReached c
         → AreRead rs names held v → StopsReading (inputs rs names) place held before after c l → ⊥
     all_apart [] names place v c l told n h k = k
     all_apart (r ∷ rs) [] place v c l told n h k = k
     all_apart (r ∷ rs) (name ∷ names) place v c l told n h (inl k) = read_apart (input r name) place v.0 c l told.0 n h.0 k
     all_apart (r ∷ rs) (name ∷ names) place v c l told n h (inr k) = all_apart rs names (place + 1) v.1 c l told.1 n h.1 k.2
 
-    pub same_values : (rs : List Reader) (names : List (List ℕ)) (u v : Values rs) → AreTold held (inputs rs names) → AreRead rs names held u → AreRead rs names held v → u ≡ v
+    pub same_values : (rs : List ReadAs) (names : List (List ℕ)) (u v : Values rs) → AreTold held (inputs rs names) → AreRead rs names held u → AreRead rs names held v → u ≡ v
     same_values [] names u v told h k = refl
     same_values (r ∷ rs) [] u v told h k = absurd h
     same_values (r ∷ rs) (name ∷ names) u v told h k =

@@ -3,14 +3,14 @@ use Rattle.std.proofs.Common.{◌≡◌, ℕ, List, [], ◌++◌, Option, Some, 
 use Rattle.std.specs.Prelude.{codes, option_map}
 use Rattle.rational_theory.specs.Rational.{ℚ}
 use Rattle.progression.specs.Street.{Street, count}
-use Rattle.progression.specs.TimingRecord.{TimingRecord}
+use Rattle.progression.specs.TimingRecord.{TimingRecord, base}
 use Rattle.progression.specs.Best.{weighted_band}
 use Rattle.progression.specs.declared.parts.Dir.TheVariants.{Outbound, Inbound}
-use Rattle.link_theory.specs.LinkRecord.{LinkRecord, lines}
+use Rattle.link_theory.specs.LinkRecord.{LinkRecord, link_base}
 use Rattle.certificate_model.specs.Families.{Table}
 use Rattle.branch_and_bound.specs.declared.found.Stop.{Stop}
 use Rattle.branch_and_bound.specs.declared.found.Verdict.TheVariants.{Stopped}
-use Rattle.branch_tree.specs.declared.site.SitePart.{SitePart}
+use Rattle.box_search.specs.declared.site.SitePart.{SitePart}
 use Rattle.diagram_print.specs.Measures.{weighted_line, band_line, cycle_line}
 use Rattle.diagram_print.specs.Offsets.{signal_lines}
 use Rattle.diagram_print.specs.Speeds.{link_lines}
@@ -45,12 +45,12 @@ module _ (k : Sought) (a : Street) (report rest : k.Timing → List ℕ) (begins
 
 -- a report's lines after that of the weighted band
 abbrev pub after_weighted : Street → TimingRecord → List ℕ
-after_weighted a t = (band_line a t Outbound ++ (band_line a t Inbound ++ cycle_line a t)) ++ (signal_lines a t ++ (link_lines a t ++ (codes "diagram\n" ++ diagram_lines a t)))
+after_weighted a t = (band_line a t Outbound ++ (band_line a t Inbound ++ cycle_line a (base t))) ++ (signal_lines a (base t) ++ (link_lines a (base t) ++ (codes "diagram\n" ++ diagram_lines a t)))
 
 pub weighted_first : (a : Street) (t : TimingRecord) → timing_lines a t ≡ value_line (Some (weighted_band a t)) ++ after_weighted a t
-weighted_first a t = append_assoc (weighted_line a t) (band_line a t Outbound ++ (band_line a t Inbound ++ cycle_line a t)) (signal_lines a t
-    ++ (link_lines a t ++ (codes "diagram\n" ++ diagram_lines a t)))
+weighted_first a t = append_assoc (weighted_line a t) (band_line a t Outbound ++ (band_line a t Inbound ++ cycle_line a (base t))) (signal_lines a (base t)
+    ++ (link_lines a (base t) ++ (codes "diagram\n" ++ diagram_lines a t)))
 
 -- and of a report of links
 abbrev pub after_link_value : Street → LinkRecord → List ℕ
-after_link_value a t = link_band_lines a t ++ (cycle_line a (lines t) ++ (signal_lines a (lines t) ++ link_lines a (lines t)))
+after_link_value a t = link_band_lines a t ++ (cycle_line a (link_base t) ++ (signal_lines a (link_base t) ++ link_lines a (link_base t)))

@@ -23,12 +23,15 @@ use Rattle.branch_and_bound.specs.declared.found.Stop.{Stop}
 use Rattle.branch_and_bound.specs.declared.found.Stop.TheVariants.{Work, Wide}
 use Rattle.branch_and_bound.specs.declared.found.Verdict.{Verdict}
 use Rattle.branch_and_bound.specs.declared.found.Verdict.TheVariants.{Best, NoTiming, Stopped}
-use Rattle.branch_tree.specs.declared.site.SitePart.{SitePart}
-use Rattle.branch_tree.specs.Certified.{claim_by, warrant_of}
+use Rattle.box_search.specs.declared.site.SitePart.{SitePart}
+use Rattle.box_search.specs.Certified.{claim_by}
+use Rattle.branch_tree.specs.Certified.{warrant_of}
 use Rattle.branch_tree.specs.ArteryRules.{rules_of}
 use Rattle.branch_tree.specs.Searches.{incumbent_of}
-use Rattle.branch_tree.specs.SiteNames.{IsSiteOf, EndsAt}
-use Rattle.branch_tree.specs.Enough.{enough_of, IsTooLow, IsWithin}
+use Rattle.box_search.specs.SiteNames.{EndsAt}
+use Rattle.branch_tree.specs.SiteNames.{IsSiteOf}
+use Rattle.box_search.specs.Enough.{IsTooLow, IsWithin}
+use Rattle.branch_tree.specs.Enough.{enough_of}
 use Rattle.link_theory.specs.LinkRecord.{LinkRecord}
 use Rattle.diagram_print.specs.Report.{best_lines, verdict_lines, timing_lines}
 use Rattle.multi_band.specs.LinkReport.{link_timing_lines}
@@ -39,10 +42,10 @@ use Rattle.multi_band.specs.LinkSites.{IsLinkSiteOf}
 use Rattle.multi_band.specs.LinkEnough.{link_enough_of}
 use Rattle.run_laws.specs.Asked as ask
 use Rattle.maxband_run.specs.Outside.{Outside}
-use Rattle.branch_tree.specs.Kinds.{ProvesBy}
+use Rattle.box_search.specs.Kinds.{ProvesBy}
 use Rattle.run_commands.specs.Searched.{cause_of}
 use Rattle.run_inputs.specs.Reading.{Value, IsReadAs, Reads}
-use Rattle.run_inputs.specs.declared.reader.Reader.TheVariants.{Description}
+use Rattle.run_inputs.specs.declared.reader.ReadAs.TheVariants.{Description}
 use Rattle.run_commands.specs.Sought.{Sought, whole_bands, bands_of_links}
 use Rattle.maxband_run.specs.Run.{Question, Ends}
 use Rattle.run_laws.specs.Laws.{IsWholeLimit, HoldsCertificate, value_line, open_lines, PutsBest, PutsNone, PutsBound, SearchSays}

@@ -10,7 +10,7 @@ use Rattle.certificate_model.specs.declared.certificate.Claim.TheVariants as cla
 use Rattle.certificate_checker.specs.Claims.{ClaimHolds}
 use Rattle.certificate_checker.specs.Laws.{RefusedIsNotAccepted}
 use Rattle.run_inputs.specs.Reading.{Reads}
-use Rattle.run_inputs.specs.declared.reader.Reader.TheVariants.{Description}
+use Rattle.run_inputs.specs.declared.reader.ReadAs.TheVariants.{Description}
 use Rattle.run_commands.specs.Hold.{IsJudged}
 use Rattle.run_laws.specs.PlanLaws.{IsWithin, TimingIsBounded}
 use Rattle.run_laws.proofs.Readers.{OneReading, one_read}

@@ -7,8 +7,9 @@ use Rattle.progression.specs.Street.{Street}
 use Rattle.branch_and_bound.specs.declared.found.Verdict.{Verdict}
 use Rattle.branch_and_bound.specs.declared.found.Verdict.TheVariants.{Best, NoTiming, Stopped}
 use Rattle.branch_and_bound.specs.declared.found.Stop.TheVariants.{Work, Wide}
-use Rattle.branch_tree.specs.declared.site.SitePart.{SitePart}
-use Rattle.branch_tree.specs.Enough.{enough_of, IsWithin}
+use Rattle.box_search.specs.declared.site.SitePart.{SitePart}
+use Rattle.box_search.specs.Enough.{IsWithin}
+use Rattle.branch_tree.specs.Enough.{enough_of}
 use Rattle.multi_band.specs.LinkEnough.{link_enough_of}
 use Rattle.cycle_sweep.specs.Rows.{at_cycle}
 use Rattle.cycle_sweep.specs.declared.row.SweepRow.{SweepRow}
@@ -17,7 +18,7 @@ use Rattle.workload_maker.specs.Made.{made_street}
 use Rattle.run_inputs.specs.Puts.{NamedBytes}
 use Rattle.maxband_run.specs.Outside.{Outside}
 use Rattle.run_inputs.specs.Reading.{input, inputs, Values, IsUnread, StopsReading}
-use Rattle.run_inputs.specs.declared.reader.Reader.TheVariants.{Description}
+use Rattle.run_inputs.specs.declared.reader.ReadAs.TheVariants.{Description}
 use Rattle.run_commands.specs.Searched.{cause_of}
 use Rattle.run_commands.specs.Settings.{Settings}
 use Rattle.run_commands.specs.Table.{readers, Finds}

@@ -19,7 +19,7 @@ use Rattle.whole_offsets.specs.Steady.{IsSteady}
 use Rattle.whole_plan.specs.Cycles.{tried_cycles}
 use Rattle.run_inputs.specs.Cycles.{seconds_of, AreSpelled}
 use Rattle.run_inputs.specs.Reading.{Reads}
-use Rattle.run_inputs.specs.declared.reader.Reader.TheVariants.{Description, Certificate}
+use Rattle.run_inputs.specs.declared.reader.ReadAs.TheVariants.{Description, Certificate}
 use Rattle.run_inputs.specs.Status.{number_of}
 use Rattle.run_inputs.specs.declared.cause.Cause.{Cause}
 use Rattle.run_inputs.specs.declared.cause.Cause.TheVariants as cause

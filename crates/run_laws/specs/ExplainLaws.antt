@@ -16,15 +16,15 @@ use Rattle.file_words.specs.Explained.{kind_words}
 use Rattle.run_inputs.specs.Reading.{Value, IsReadAs, IsRefusedFor, Reads}
 use Rattle.run_inputs.specs.Status.{number_of}
 use Rattle.run_inputs.specs.declared.cause.Cause.{Cause}
-use Rattle.run_inputs.specs.declared.reader.Reader.{Reader}
-use Rattle.run_inputs.specs.declared.reader.Reader.TheVariants as reader
+use Rattle.run_inputs.specs.declared.reader.ReadAs.{ReadAs}
+use Rattle.run_inputs.specs.declared.reader.ReadAs.TheVariants as reader
 use Rattle.maxband_run.specs.Outside.{Outside}
 use Rattle.maxband_run.specs.Run.{Ends}
 use Rattle.run_laws.specs.Asked as ask
 use Rattle.run_laws.specs.Laws.{TellsFirst}
 
 -- as what the other commands read a file of a kind: `show` a description, `timing` a plan, `hold` a timing, `check` and `check-links` certificates
-abbrev pub reader_of : FileKind → Reader
+abbrev pub reader_of : FileKind → ReadAs
 reader_of kind.Timing = reader.Timing
 reader_of kind.Certificate = reader.Certificate
 reader_of kind.LinkCertificate = reader.LinkCertificate

@@ -19,7 +19,7 @@ use Rattle.certificate_model.specs.declared.certificate.Claim.{Claim}
 use Rattle.certificate_model.specs.declared.certificate.Claim.TheVariants as claim
 use Rattle.branch_and_bound.specs.declared.found.Stop.{Stop}
 use Rattle.branch_and_bound.specs.declared.found.Stop.TheVariants.{Work, Wide}
-use Rattle.branch_tree.specs.declared.site.SitePart.{SitePart}
+use Rattle.box_search.specs.declared.site.SitePart.{SitePart}
 use Rattle.branch_tree.specs.Certified.{warrant_of}
 use Rattle.diagram_print.specs.Measures.{measure_line}
 use Rattle.diagram_print.specs.Report.{stop_lines, bound_line}
@@ -30,8 +30,8 @@ use Rattle.run_inputs.specs.Puts.{NamedBytes}
 use Rattle.maxband_run.specs.Outside.{Outside}
 use Rattle.run_laws.specs.Asked as ask
 use Rattle.run_inputs.specs.Reading.{Value, inputs, most_bytes, IsReadAs, Reads, Describes, AreTold}
-use Rattle.run_inputs.specs.declared.reader.Reader.{Reader}
-use Rattle.run_inputs.specs.declared.reader.Reader.TheVariants.{Description, Timing, Certificate}
+use Rattle.run_inputs.specs.declared.reader.ReadAs.{ReadAs}
+use Rattle.run_inputs.specs.declared.reader.ReadAs.TheVariants.{Description, Timing, Certificate}
 use Rattle.run_commands.specs.Ends.{IsVerdict}
 use Rattle.run_commands.specs.Settings.{unsaid}
 use Rattle.run_commands.specs.Table.{row, line_of, lines_of}
@@ -94,7 +94,7 @@ IsChosenBy (Some r) c = IsChosen r.usage c
 
 -- Two answers to the same words are the same. Two of a command that chooses may both be chosen, since of several best timings any may be found; where it reads no file
 -- they are.
-abbrev pub Agree : Bool → List Reader → Type 0 → Type 0 → Type 0
+abbrev pub Agree : Bool → List ReadAs → Type 0 → Type 0 → Type 0
 Agree false readers same chosen = same
 Agree true [] same chosen = chosen
 Agree true (r ∷ rs) same chosen = same ⊎ chosen

@@ -13,7 +13,7 @@ use Rattle.limit_sensitivity.specs.Says.{SaysEnd}
 use Rattle.limit_sensitivity.specs.Table.{row_fields, sensitivity_text}
 use Rattle.limit_sensitivity.specs.Report.{sensitivity_lines}
 use Rattle.run_inputs.specs.Reading.{Reads}
-use Rattle.run_inputs.specs.declared.reader.Reader.TheVariants.{Description}
+use Rattle.run_inputs.specs.declared.reader.ReadAs.TheVariants.{Description}
 use Rattle.run_inputs.specs.Status.{number_of}
 use Rattle.run_inputs.specs.declared.cause.Cause.{Cause}
 use Rattle.maxband_run.specs.Outside.{Outside}

@@ -45,7 +45,7 @@ use Rattle.run_inputs.specs.Cycles.{cycle_of, AreSpelled}
 use Rattle.maxband_run.specs.Outside.{Outside}
 use Rattle.run_laws.specs.Asked as ask
 use Rattle.run_inputs.specs.Reading.{input, most_bytes, Reads, StopsReading}
-use Rattle.run_inputs.specs.declared.reader.Reader.TheVariants.{Description, Timing, Certificate, Timed, TypedPlan}
+use Rattle.run_inputs.specs.declared.reader.ReadAs.TheVariants.{Description, Timing, Certificate, Timed, TypedPlan}
 use Rattle.run_commands.specs.Bands.{widest_line}
 use Rattle.run_commands.specs.Hold.{IsJudged, verdict_line}
 use Rattle.run_commands.specs.Typed.{measured_lines}
@@ -146,8 +146,8 @@ pub record PutsPlan (before now : Outside) (a : Street) (given : TimingRecord) (
   pub offsets : List ℕ
   pub loss : ℚ
   pub planned : IsPlanned a (base given) seconds offsets timing
-  pub cycle_is : cycle_seconds a timing ≡ number seconds
-  pub offsets_are : (i : ℕ) → HasSignal a i → offset a timing i ≡ number (slice_index offsets (i - 1))
+  pub cycle_is : cycle_seconds a (base timing) ≡ number seconds
+  pub offsets_are : (i : ℕ) → HasSignal a i → offset a (base timing) i ≡ number (slice_index offsets (i - 1))
   pub good : Good a timing
   pub best : IsBestOfOffsets a timing
   pub lost : (s : TimingRecord) → Good a s → weighted_band a s ≤ℚ (weighted_band a timing +ℚ loss)

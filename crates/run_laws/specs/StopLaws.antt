@@ -13,10 +13,11 @@ use Rattle.branch_and_bound.specs.declared.found.Site.{Site}
 use Rattle.branch_and_bound.specs.declared.found.Stop.{Stop}
 use Rattle.branch_and_bound.specs.declared.found.Stop.TheVariants.{Work, Wide}
 use Rattle.branch_and_bound.specs.declared.found.Verdict.TheVariants as verdict
-use Rattle.branch_tree.specs.declared.site.SitePart.{SitePart}
+use Rattle.box_search.specs.declared.site.SitePart.{SitePart}
 use Rattle.branch_tree.specs.ArteryRules.{rules_of}
 use Rattle.branch_tree.specs.Searches.{incumbent_of}
-use Rattle.branch_tree.specs.SiteNames.{IsSiteOf, StopsAt}
+use Rattle.box_search.specs.SiteNames.{StopsAt}
+use Rattle.branch_tree.specs.SiteNames.{IsSiteOf}
 use Rattle.branch_tree.specs.Enough.{enough_of}
 use Rattle.multi_band.specs.LinkRules.{link_rules}
 use Rattle.multi_band.specs.LinkSearches.{link_incumbent_of}

@@ -21,7 +21,7 @@ use Rattle.whole_plan.specs.Sought.{IsStart}
 use Rattle.whole_plan.specs.Planned.{IsWholePlan}
 use Rattle.run_inputs.specs.Cycles.{seconds_of, AreSpelled}
 use Rattle.run_inputs.specs.Reading.{Reads}
-use Rattle.run_inputs.specs.declared.reader.Reader.TheVariants.{Description, Certificate}
+use Rattle.run_inputs.specs.declared.reader.ReadAs.TheVariants.{Description, Certificate}
 use Rattle.run_inputs.specs.Status.{number_of}
 use Rattle.run_inputs.specs.declared.cause.Cause.{Cause}
 use Rattle.run_inputs.specs.declared.cause.Cause.TheVariants as cause
@@ -52,8 +52,8 @@ pub record PutsWhole (before now : Outside) (artery certificate plan : List ℕ)
   pub widest : IsWholePlan street claim given (tried_cycles street warrant.timing named) made
   pub tried : Contains (tried_cycles street warrant.timing named) made.seconds
   pub started : IsStart street given made.seconds (Some start)
-  pub cycle_is : cycle_seconds street made.timing ≡ number made.seconds
-  pub offsets_are : (i : ℕ) → HasSignal street i → offset street made.timing i ≡ number (slice_index made.offsets.items (i - 1))
+  pub cycle_is : cycle_seconds street (base made.timing) ≡ number made.seconds
+  pub offsets_are : (i : ℕ) → HasSignal street i → offset street (base made.timing) i ≡ number (slice_index made.offsets.items (i - 1))
   pub good : Good street made.timing
   pub best : IsBestOfRuns street made.timing
   pub steady : IsSteady street (base start) made.seconds made.offsets.items made.timing

@@ -13,7 +13,7 @@ use std::alloc::Global;
 use std::test::Fail;
 use test_bed::{SampleHead, fraction, plain_head, range, two_signals};
 
-struct Case {
+struct SweepCase {
     /// The red of both signals, of 100 parts.
     red: u32,
     /// The units of work for each cycle; 0 stands for no limit.
@@ -23,44 +23,44 @@ struct Case {
     table: &'static str,
 }
 
-static CASES: [Case; 7] = [
-    Case {
+static CASES: [SweepCase; 7] = [
+    SweepCase {
         red: 50,
         work: 5000,
         cycles: &[(50, 1), (75, 1), (100, 1), (120, 1)],
         table: "cycle,verdict,weighted,bound,cause\n50,best,1,1,-\n75,best,2/3,2/3,-\n100,best,1/2,1/2,-\n120,outside,-,-,-\n",
     },
-    Case {
+    SweepCase {
         red: 50,
         work: 0,
         cycles: &[(100, 1), (125, 2), (99, 2), (100, 1)],
         table: "cycle,verdict,weighted,bound,cause\n100,best,1/2,1/2,-\n125/2,best,4/5,4/5,-\n99/2,outside,-,-,-\n100,best,1/2,1/2,-\n",
     },
-    Case {
+    SweepCase {
         red: 50,
         work: 4,
         cycles: &[(100, 1)],
         table: "cycle,verdict,weighted,bound,cause\n100,open,-,1,work\n",
     },
-    Case {
+    SweepCase {
         red: 50,
         work: 14,
         cycles: &[(100, 1), (100, 1)],
         table: "cycle,verdict,weighted,bound,cause\n100,open,1/2,1,work\n100,open,1/2,1,work\n",
     },
-    Case {
+    SweepCase {
         red: 80,
         work: 0,
         cycles: &[(100, 1)],
         table: "cycle,verdict,weighted,bound,cause\n100,none,-,-,-\n",
     },
-    Case {
+    SweepCase {
         red: 80,
         work: 4,
         cycles: &[(100, 1)],
         table: "cycle,verdict,weighted,bound,cause\n100,open,-,2/5,work\n",
     },
-    Case {
+    SweepCase {
         red: 50,
         work: 1,
         cycles: &[],
@@ -116,7 +116,7 @@ fn swept(
 }
 
 /// Whether the table of a case is as worked.
-fn is_as_worked(alloc: Global, case: &Case) -> Result<bool, Fail> {
+fn is_as_worked(alloc: Global, case: &SweepCase) -> Result<bool, Fail> {
     let artery = two_signals(alloc, head(), case.red, 250)?;
     let cycles = cycles_of(alloc, case.cycles)?;
     match swept(alloc, &artery, cycles.as_slice(), limit_of(case.work)) {

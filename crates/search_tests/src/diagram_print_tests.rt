@@ -3,7 +3,6 @@
 ghost use Rattle.std.specs.Prelude.{IfOk};
 ghost use Rattle.progression.specs.Good.{Good};
 ghost use Rattle.linear_theory.specs.Boxes.{IsBoxOf};
-ghost use Rattle.branch_tree.specs.Searches.{IsPartOf};
 
 use artery_model::{Artery, Units};
 use branch_tree::{Found, Site, SitePart, Stop, Verdict};
@@ -17,14 +16,14 @@ use search_box::SearchBox;
 use std::alloc::Global;
 use std::test::Fail;
 use test_bed::{
-    Record, SampleHead, SampleLink, WHOLE_GREEN, fraction_or_zero, plain_head, plain_link,
+    SampleHead, SampleLink, TextRecord, WHOLE_GREEN, fraction_or_zero, plain_head, plain_link,
     plain_signal, range, sample_street,
 };
 use time_space::{Timing, holds};
 
 /// What differs between the arteries. The cycle is in seconds and has one length; a pair is outbound and inbound.
 #[derive(Clone, Copy)]
-struct Street {
+struct PrintStreet {
     names: [&'static str; 2],
     units: Units,
     parts: u32,
@@ -34,7 +33,7 @@ struct Street {
     speeds: [i64; 2],
 }
 
-const HALF_RED: Street = Street {
+const HALF_RED: PrintStreet = PrintStreet {
     names: ["A", "B"],
     units: Units::Metric,
     parts: 100,
@@ -44,7 +43,7 @@ const HALF_RED: Street = Street {
     speeds: [36, 36],
 };
 
-const METRES: Street = Street {
+const METRES: PrintStreet = PrintStreet {
     names: ["Oak", "Elm"],
     parts: 60,
     cycle: 60,
@@ -54,7 +53,7 @@ const METRES: Street = Street {
     ..HALF_RED
 };
 
-const FEET: Street = Street {
+const FEET: PrintStreet = PrintStreet {
     units: Units::English,
     distances: [1100, 1320],
     ..METRES
@@ -105,7 +104,7 @@ static NARROW_DIAGRAM: &str = "\
 1 in ###########################<<<<<<<=======================###
 ";
 
-fn head(street: Street) -> SampleHead {
+fn head(street: PrintStreet) -> SampleHead {
     SampleHead {
         units: street.units,
         parts: street.parts,
@@ -114,7 +113,7 @@ fn head(street: Street) -> SampleHead {
     }
 }
 
-fn link(street: Street) -> SampleLink {
+fn link(street: PrintStreet) -> SampleLink {
     SampleLink {
         distance_in: street.distances[1],
         speed_out: range(street.speeds[0], street.speeds[1]),
@@ -123,7 +122,7 @@ fn link(street: Street) -> SampleLink {
     }
 }
 
-fn artery(alloc: Global, street: Street) -> Result<Artery, Fail> {
+fn artery(alloc: Global, street: PrintStreet) -> Result<Artery, Fail> {
     let signals = [
         plain_signal(street.names[0], street.red),
         plain_signal(street.names[1], street.red),
@@ -135,7 +134,7 @@ fn artery(alloc: Global, street: Street) -> Result<Artery, Fail> {
 }
 
 fn timing(alloc: Global, times: &str) -> Result<Timing, Fail> {
-    let times = Record::new(times.as_bytes())?;
+    let times = TextRecord::new(times.as_bytes())?;
     Ok(times.timing(alloc)?.ok_or("no timing")?)
 }
 
@@ -167,7 +166,7 @@ fn best_report(alloc: Global, artery: &Artery, timing: Timing) -> Result<Vec<u8>
     }
 }
 
-fn reported(alloc: Global, street: Street, times: &str) -> Result<Vec<u8>, Fail> {
+fn reported(alloc: Global, street: PrintStreet, times: &str) -> Result<Vec<u8>, Fail> {
     let artery = artery(alloc, street)?;
     let timing = good_timing(alloc, &artery, times)?;
     best_report(alloc, &artery, timing)
@@ -176,7 +175,7 @@ fn reported(alloc: Global, street: Street, times: &str) -> Result<Vec<u8>, Fail>
 /// Whether the report is that of these lines, of those of the links, and of the diagram.
 fn is_reported(
     alloc: Global,
-    street: Street,
+    street: PrintStreet,
     times: &str,
     parts: [&'static str; 3],
 ) -> Result<bool, Fail> {
@@ -208,7 +207,7 @@ fn reports_of_timings(rt: HostRuntime) -> Result<(), Fail> {
 }
 
 /// The diagram alone, which needs no good timing.
-fn drawn(alloc: Global, street: Street, times: &str) -> Result<Vec<u8>, Fail> {
+fn drawn(alloc: Global, street: PrintStreet, times: &str) -> Result<Vec<u8>, Fail> {
     let artery = artery(alloc, street)?;
     let timing = timing(alloc, times)?;
     if timing.count() != artery.count() {
@@ -237,9 +236,7 @@ fn root(alloc: Global, artery: &Artery) -> Result<SearchBox, Fail>
 }
 
 /// The report of a search that stopped in the root box at this operation.
-fn wide_report(alloc: Global, artery: &Artery, part: SitePart) -> Result<Vec<u8>, Fail>
-    requires { IsPartOf artery.now part }
-{
+fn wide_report(alloc: Global, artery: &Artery, part: SitePart) -> Result<Vec<u8>, Fail> {
     let area = root(alloc, artery)?;
     let site = Site {
         area,
@@ -271,9 +268,7 @@ fn around(alloc: Global, site: &str) -> Result<String, Fail> {
 }
 
 /// Whether a search that stopped at this operation is reported with these lines of its site.
-fn is_told(alloc: Global, artery: &Artery, part: SitePart, site: &str) -> Result<bool, Fail>
-    requires { IsPartOf artery.now part }
-{
+fn is_told(alloc: Global, artery: &Artery, part: SitePart, site: &str) -> Result<bool, Fail> {
     let lines = wide_report(alloc, artery, part)?;
     let expected = around(alloc, site)?;
     Ok(lines.as_slice() == expected.as_bytes())
@@ -288,7 +283,6 @@ static LEAF_SITE: &str = "site leaf wout 2 y_out 1\noperands add 5 1/2\n";
 
 /// Whether the sites of a ratio, of a pivot and of a leaf's sum are told.
 fn are_ends_told(alloc: Global, artery: &Artery) -> Result<bool, Fail> {
-    prove!(artery.count() >= 2);
     let half = fraction_or_zero(1, 2);
     let five = Frac::whole(5);
     let ratio = SitePart::Ratio(WideCell {
@@ -319,7 +313,6 @@ fn are_ends_told(alloc: Global, artery: &Artery) -> Result<bool, Fail> {
 
 /// Whether the sites of a block sum, of a shift, of the unit and of a number are told.
 fn are_timings_told(alloc: Global, artery: &Artery) -> Result<bool, Fail> {
-    prove!(artery.count() >= 2);
     let block = SitePart::Timing(WideTiming::Sum {
         link: 1,
         wide: wide(Op::Sub, fraction_or_zero(1, 2), fraction_or_zero(-2, 3)),

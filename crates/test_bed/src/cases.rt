@@ -25,7 +25,7 @@ macro_rules! written_without_timing {
 }
 
 /// Who answers for a text in a line.
-pub trait Reader {
+pub trait TextReader {
     fn answer(&self, alloc: Global, text: &[u8]) -> Result<String, Fail>;
 }
 
@@ -43,7 +43,7 @@ pub fn told_again(
 }
 
 /// Fails where the answer for a text is another than that of its case.
-fn told<R: Reader>(alloc: Global, reader: &R, text: &str, case: &str) -> Result<(), Fail> {
+fn told<R: TextReader>(alloc: Global, reader: &R, text: &str, case: &str) -> Result<(), Fail> {
     let (_, want) = parts(case);
     let got = reader.answer(alloc, text.as_bytes())?;
     if got.as_str() == want {
@@ -58,7 +58,7 @@ fn parts(case: &str) -> (&str, &str) {
 }
 
 /// Fails at the first of these cases of a text that is answered otherwise.
-pub fn all_told<R: Reader>(
+pub fn all_told<R: TextReader>(
     alloc: Global,
     reader: &R,
     base: &str,
@@ -73,7 +73,11 @@ pub fn all_told<R: Reader>(
 }
 
 /// The same of cases that give their whole texts.
-pub fn all_texts_told<R: Reader>(alloc: Global, reader: &R, cases: &[&str]) -> Result<(), Fail> {
+pub fn all_texts_told<R: TextReader>(
+    alloc: Global,
+    reader: &R,
+    cases: &[&str],
+) -> Result<(), Fail> {
     for case in cases {
         let (text, _) = parts(case);
         told(alloc, reader, text, case)?;
@@ -103,21 +107,31 @@ pub fn each_with_next(alloc: Global, faults: &[&str]) -> Result<Vec<String>, All
 }
 
 /// Fails where this text isn't refused for its end at the line after so many.
-fn told_ended<R: Reader>(alloc: Global, reader: &R, text: &str, lines: usize) -> Result<(), Fail> {
+fn told_ended<R: TextReader>(
+    alloc: Global,
+    reader: &R,
+    text: &str,
+    lines: usize,
+) -> Result<(), Fail> {
     let next = lines.saturating_add(1);
     let case = format!(in alloc; "{lines} lines -> {next} Ended")?;
     told(alloc, reader, text, case.as_str())
 }
 
 /// The same of this text with the first bytes of a line after it.
-fn told_open<R: Reader>(alloc: Global, reader: &R, text: &str, lines: usize) -> Result<(), Fail> {
+fn told_open<R: TextReader>(
+    alloc: Global,
+    reader: &R,
+    text: &str,
+    lines: usize,
+) -> Result<(), Fail> {
     let open = format!(in alloc; "{text}end")?;
     told_ended(alloc, reader, open.as_str(), lines)
 }
 
 /// Fails where the first lines of a text, so many or fewer, aren't refused at the next line for their end, with the first bytes of a
 /// line after them or without.
-pub fn all_ends_told<R: Reader>(alloc: Global, reader: &R, base: &str) -> Result<(), Fail> {
+pub fn all_ends_told<R: TextReader>(alloc: Global, reader: &R, base: &str) -> Result<(), Fail> {
     let mut kept = String::new(alloc);
     for (index, line) in base.lines().enumerate() {
         told_ended(alloc, reader, kept.as_str(), index)?;

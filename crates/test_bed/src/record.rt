@@ -26,7 +26,7 @@ macro_rules! timing_by {
 
 /// A text of lines, each a name and what stands behind it.
 #[derive(Clone, Copy)]
-pub struct Record<'a> {
+pub struct TextRecord<'a> {
     text: &'a str,
 }
 
@@ -54,11 +54,11 @@ fn small_of(number: u128) -> Result<u32, Fail> {
     }
 }
 
-impl<'a> Record<'a> {
+impl<'a> TextRecord<'a> {
     /// The record of these lines.
     pub fn new(text: &'a [u8]) -> Result<Self, Fail> {
         let text = std::str::from_utf8(text)?;
-        Ok(Record { text })
+        Ok(TextRecord { text })
     }
 
     /// What stands behind a name.

@@ -1,4 +1,4 @@
-//! Texts that more than one room of tests reads.
+//! Texts that more than one crate of tests reads.
 
 use std::alloc::{AllocError, Global};
 

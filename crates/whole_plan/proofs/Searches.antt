@@ -14,13 +14,13 @@ use Rattle.progression.specs.Good.{Good}
 use Rattle.progression.specs.Best.{Bounded, bands_of}
 use Rattle.branch_and_bound.specs.declared.found.Verdict.{Verdict}
 use Rattle.branch_and_bound.specs.declared.found.Verdict.TheVariants.{Best, NoTiming, Stopped}
-use Rattle.branch_tree.specs.declared.site.SitePart.{SitePart}
-use Rattle.branch_tree.specs.Kinds.{ProvesBy}
+use Rattle.box_search.specs.declared.site.SitePart.{SitePart}
+use Rattle.box_search.specs.Kinds.{ProvesBy}
 use Rattle.second_plan.specs.Seconds.{IsWholeCycle}
 use Rattle.second_plan.specs.declared.answer.PlanEnd.TheVariants as end
 use Rattle.whole_plan.specs.Sought.{street_at, bound_by, IsCeiling, IsSought, IsStart}
 use Rattle.whole_plan.specs.Sets.{IsOutcomeFrom, IsOutcome}
-use Rattle.whole_plan.specs.declared.searching.Sought.{Sought}
+use Rattle.whole_plan.specs.declared.searching.CycleFound.{CycleFound}
 use Rattle.whole_plan.specs.declared.setting.Outcome.{Outcome}
 use Rattle.whole_plan.specs.declared.setting.Outcome.TheVariants.{OffsetSet, Ended}
 
@@ -60,7 +60,7 @@ all_within a k s None w e h = tt
 all_within a k s (Some t) w e h = good_within a k t w (subst (λ b. Good b t) e h)
 
 -- ---- what comes of a cycle
-module _ (a : Street) (given : Option TimingRecord) (k : ℕ) (s : Sought) (found : IsSought (street_at a k) s) where
+module _ (a : Street) (given : Option TimingRecord) (k : ℕ) (s : CycleFound) (found : IsSought (street_at a k) s) where
   from_start : (t : TimingRecord) (r : Outcome) → IsStart a given k (Some t) → IsOutcomeFrom a (base t) k r → IsOutcome a given k r
   from_start t (OffsetSet q) start h = record { timing = t; start = start; set = h }
   from_start t (Ended e) start h = inr (t, (start, h))

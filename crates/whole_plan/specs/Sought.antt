@@ -9,11 +9,11 @@ use Rattle.progression.specs.Best as best
 use Rattle.progression.specs.Best.{Bounded}
 use Rattle.branch_and_bound.specs.declared.found.Verdict.{Verdict}
 use Rattle.branch_and_bound.specs.declared.found.Verdict.TheVariants.{Best, NoTiming, Stopped}
-use Rattle.branch_tree.specs.declared.site.SitePart.{SitePart}
+use Rattle.box_search.specs.declared.site.SitePart.{SitePart}
 use Rattle.branch_tree.specs.Told.{Found}
 use Rattle.branch_tree.specs.Searched.{IsSearched}
 use Rattle.cycle_sweep.specs.Rows.{at_cycle}
-use Rattle.whole_plan.specs.declared.searching.Sought.{Sought}
+use Rattle.whole_plan.specs.declared.searching.CycleFound.{CycleFound}
 
 -- the street with this cycle alone, in seconds
 abbrev pub street_at : Street → ℕ → Street
@@ -35,7 +35,7 @@ IsCeiling a None = best.NoTiming a
 IsCeiling a (Some bound) = Bounded a bound
 
 -- the timing and the bound that a search of a street found
-pub record IsSought (street : Street) (s : Sought) : Type 0 where
+pub record IsSought (street : Street) (s : CycleFound) : Type 0 where
   pub found : Found
   pub searched : IsSearched street (Some search_units) found
   pub timing_is : s.timing ≡ found.timing
@@ -43,6 +43,6 @@ pub record IsSought (street : Street) (s : Sought) : Type 0 where
 
 -- The offsets of the cycle start from this timing: the one that was found, and where none was from the given one, if there is one.
 pub record IsStart (a : Street) (given : Option TimingRecord) (k : ℕ) (start : Option TimingRecord) : Type 0 where
-  pub sought : Sought
+  pub sought : CycleFound
   pub found : IsSought (street_at a k) sought
   pub start_is : start ≡ option_or sought.timing given

@@ -18,7 +18,7 @@ const SEARCH_UNITS: u64 = 10_000;
 
 /// What was found of a cycle.
 #[derive(Drop)]
-pub(crate) struct Sought {
+pub(crate) struct CycleFound {
     /// A timing that is good at it.
     pub timing: Option<Timing>,
     /// What no weighted band at it exceeds, and none where no timing is good there.
@@ -36,19 +36,19 @@ fn bound_by(verdict: &Verdict, bound: Frac) -> Option<Frac>
 }
 
 /// What is kept of what a search found.
-fn sought_of(found: Found) -> Sought
+fn sought_of(found: Found) -> CycleFound
     ensures timing { result.timing ≡ found.timing }
     ensures bound { result.bound ≡ bound_by found.verdict found.bound }
 {
     let bound = bound_by(&found.verdict, found.bound);
-    Sought {
+    CycleFound {
         timing: found.timing,
         bound,
     }
 }
 
 /// What a search of a street finds.
-fn sought_in(alloc: Global, street: &Artery) -> Result<Sought, Memory>
+fn sought_in(alloc: Global, street: &Artery) -> Result<CycleFound, Memory>
     ensures sought { IfOk result (λ s. IsSought street.now s) }
     ensures ceiling { IfOk result (λ s. IsCeiling street.now s.bound) }
     ensures good { IfOk result (λ s. IfSome s.timing (λ timing. Good street.now timing)) }
@@ -58,7 +58,7 @@ fn sought_in(alloc: Global, street: &Artery) -> Result<Sought, Memory>
 }
 
 /// What a search of the street with a cycle of so many seconds alone finds.
-pub(crate) fn sought_at(alloc: Global, artery: &Artery, seconds: u64) -> Result<Sought, Memory>
+pub(crate) fn sought_at(alloc: Global, artery: &Artery, seconds: u64) -> Result<CycleFound, Memory>
     requires { IsWholeCycle artery.now seconds }
     ensures sought { IfOk result (λ s. IsSought (street_at artery.now seconds) s) }
     ensures ceiling { IfOk result (λ s. IsCeiling (street_at artery.now seconds) s.bound) }

@@ -5,7 +5,7 @@ ghost use Rattle.progression.specs.{Good.{Good}, TimingRecord.{base}};
 ghost use Rattle.second_plan.specs.Seconds.{IsWholeCycle};
 ghost use Rattle.whole_plan.specs.{Sought.{street_at, IsSought}, Sets.{IsOutcomeFrom, IsOutcome}};
 
-use crate::searching::Sought;
+use crate::searching::CycleFound;
 use artery_model::Artery;
 use narrow_fraction::Memory;
 use second_plan::{PlanEnd, PlanFault};
@@ -45,7 +45,7 @@ pub(crate) fn outcome_at(
     alloc: Global,
     artery: &Artery,
     given: &Option<Timing>,
-    sought: &Sought,
+    sought: &CycleFound,
     seconds: u64,
 ) -> Result<Outcome, Memory>
     requires whole { IsWholeCycle artery.now seconds }

@@ -11,26 +11,26 @@ use std::rt::HostRuntime;
 use test_bed::fraction_or_zero;
 
 /// A fraction: its numerator and its denominator.
-type Number = (i128, i128);
+type CellNumber = (i128, i128);
 
 /// A row of two columns: its numbers, the bound last.
-type Numbers = [Number; 3];
+type Numbers = [CellNumber; 3];
 
-const TWO_126: Number = (two_columns::TWO_126, 1);
+const TWO_126: CellNumber = (two_columns::TWO_126, 1);
 
-const ZERO: Number = (0, 1);
+const ZERO: CellNumber = (0, 1);
 
-const ONE: Number = (1, 1);
+const ONE: CellNumber = (1, 1);
 
-const TWO: Number = (2, 1);
+const TWO: CellNumber = (2, 1);
 
-const FOUR: Number = (4, 1);
+const FOUR: CellNumber = (4, 1);
 
-const HALF: Number = (1, 2);
+const HALF: CellNumber = (1, 2);
 
-const THIRD: Number = (1, 3);
+const THIRD: CellNumber = (1, 3);
 
-fn fraction(number: Number) -> Frac {
+fn fraction(number: CellNumber) -> Frac {
     fraction_or_zero(number.0, number.1)
 }
 
@@ -71,8 +71,8 @@ fn refused(
     row: u32,
     col: u32,
     op: Op,
-    left: Number,
-    right: Number,
+    left: CellNumber,
+    right: CellNumber,
 ) -> Option<Result<(), WideCell>> {
     let wide = Wide {
         op,
@@ -187,7 +187,7 @@ fn cells_of_a_pivot(rt: HostRuntime) {
     take_pivot(&rt, &mut tableau);
 }
 
-fn quotients(numbers: [Number; 4]) -> [Quotient; 4] {
+fn quotients(numbers: [CellNumber; 4]) -> [Quotient; 4] {
     numbers.map(|number| Quotient::of_fraction(fraction(number)))
 }
 
@@ -277,7 +277,7 @@ fn first_kept(tableau: &Tableau, row: u32) -> (usize, Option<(u32, Frac)>) {
 }
 
 /// What is said of a row whose only cell other than 0 is this one.
-fn only_kept(place: u32, cell: Number) -> (usize, Option<(u32, Frac)>) {
+fn only_kept(place: u32, cell: CellNumber) -> (usize, Option<(u32, Frac)>) {
     (1, Some((place, fraction(cell))))
 }
 

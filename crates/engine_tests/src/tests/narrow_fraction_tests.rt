@@ -14,10 +14,10 @@ const TWO_100: i128 = 1_267_650_600_228_229_401_496_703_205_376;
 const THREE_70: i128 = 2_503_155_504_993_241_601_315_571_986_085_849;
 
 /// A fraction: its numerator and its denominator.
-type Number = (i128, i128);
+type TopAndBottom = (i128, i128);
 
 /// Operations that are exact: the operands and the answer.
-static WITHIN: [(Op, Number, Number, Number); 17] = [
+static WITHIN: [(Op, TopAndBottom, TopAndBottom, TopAndBottom); 17] = [
     (Op::Add, (1, 6), (1, 10), (4, 15)),
     (Op::Add, (1, 2), (-1, 2), (0, 1)),
     (Op::Add, (-7, 3), (2, 1), (-1, 3)),
@@ -56,7 +56,7 @@ static WITHIN: [(Op, Number, Number, Number); 17] = [
 type Words = (i64, u64);
 
 /// The same of quotients, whose words have common divisors.
-static UNREDUCED: [(Op, Words, Words, Number); 9] = [
+static UNREDUCED: [(Op, Words, Words, TopAndBottom); 9] = [
     (Op::Add, (2, 12), (6, 60), (4, 15)),
     (Op::Add, (4, 8), (-3, 6), (0, 1)),
     (Op::Add, (-14, 6), (6, 3), (-1, 3)),
@@ -84,7 +84,7 @@ fn answer(op: Op, left: Frac, right: Frac) -> Result<Frac, Wide> {
     }
 }
 
-fn is_exact(op: Op, left: Frac, right: Frac, want: Number) -> bool {
+fn is_exact(op: Op, left: Frac, right: Frac, want: TopAndBottom) -> bool {
     answer(op, left, right) == Ok(fraction(want.0, want.1))
 }
 
@@ -94,11 +94,11 @@ fn ratio(num: i128, den: i128) -> Result<Frac, Unfit> {
 }
 
 /// A fraction's numerator and its denominator.
-fn parts(fraction: Frac) -> Number {
+fn parts(fraction: Frac) -> TopAndBottom {
     (fraction.num(), fraction.den())
 }
 
-fn made(num: i128, den: i128) -> Result<Number, Unfit> {
+fn made(num: i128, den: i128) -> Result<TopAndBottom, Unfit> {
     match ratio(num, den) {
         Ok(fraction) => Ok(parts(fraction)),
         Err(unfit) => Err(unfit),
@@ -106,7 +106,7 @@ fn made(num: i128, den: i128) -> Result<Number, Unfit> {
 }
 
 /// Any two numbers, and the fraction that they make.
-static MADE: [(Number, Result<Number, Unfit>); 11] = [
+static MADE: [(TopAndBottom, Result<TopAndBottom, Unfit>); 11] = [
     ((6, -4), Ok((-3, 2))),
     ((-6, -4), Ok((3, 2))),
     ((0, -7), Ok((0, 1))),
@@ -140,7 +140,7 @@ fn is_refused(op: Op, left: Frac, right: Frac) -> bool {
 }
 
 /// Operations that are refused.
-static PAST: [(Op, Number, Number); 6] = [
+static PAST: [(Op, TopAndBottom, TopAndBottom); 6] = [
     (Op::Add, (1, TWO_100), (1, THREE_70)),
     (Op::Add, (-TWO_126, 1), (1, 2)),
     (Op::Add, (-TWO_126, 1), (-TWO_126, 1)),
@@ -233,7 +233,7 @@ fn operations_on_quotients_with_common_divisors(rt: HostRuntime) {
 }
 
 /// Operations on a fraction and a quotient of words, and whether the answer fits.
-static AT_128_BITS: [(Op, Number, Words, bool); 8] = [
+static AT_128_BITS: [(Op, TopAndBottom, Words, bool); 8] = [
     (Op::Mul, (TWO_126, 1), (6, 6), true),
     (Op::Mul, (TWO_126, 1), (4, 2), false),
     (Op::Mul, (1, TWO_126), (3, 6), false),
@@ -325,7 +325,7 @@ fn order_of_quotients(rt: HostRuntime) -> Result<(), AllocError> {
 }
 
 /// A factor, another one, a number, and what is left of this less the product, where they are small.
-static LESS: [(Words, Number, Number, Option<Number>); 9] = [
+static LESS: [(Words, TopAndBottom, TopAndBottom, Option<TopAndBottom>); 9] = [
     ((6, 4), (2, 3), (5, 2), Some((3, 2))),
     ((-6, 4), (1, 3), (1, 2), Some((1, 1))),
     ((3, 9), (3, 1), (1, 1), Some((0, 1))),
@@ -337,7 +337,7 @@ static LESS: [(Words, Number, Number, Option<Number>); 9] = [
     ((1, 2), (1, 2), (-1_048_576, 1), None),
 ];
 
-fn less_times(factor: Words, other: Frac, from: Frac) -> Option<Number> {
+fn less_times(factor: Words, other: Frac, from: Frac) -> Option<TopAndBottom> {
     match quotient(factor.0, factor.1).less_times(other, from) {
         Some(less) => Some(parts(less)),
         None => None,

@@ -7,8 +7,8 @@ ghost use Rattle.linear_theory.specs.Places.{width};
 
 use crate::tests::row_texts::root_box;
 use artery_model::Artery;
-use certificate_checker::{Aim, ArteryRows, TreeReject, check, check_tree};
-use loop_rows::column_count;
+use certificate_checker::{Aim, TreeReject, check, check_tree};
+use loop_rows::{ArteryRows, column_count};
 use named_row::{Leaf, Place, Row};
 use narrow_fraction::Frac;
 use plan_text::{CertNode, Certificate, read_certificate};
@@ -16,8 +16,8 @@ use std::alloc::{AllocError, Global};
 use std::rt::HostRuntime;
 use std::test::Fail;
 use test_bed::{
-    HALF_BAND, HIGH_LEAF, LOW_LEAF, Reader, Record, SPLIT, SampleHead, all_told, plain_head,
-    two_signals, with_least,
+    HALF_BAND, HIGH_LEAF, LOW_LEAF, SPLIT, SampleHead, TextReader, TextRecord, all_told,
+    plain_head, two_signals, with_least,
 };
 
 /// The reds of two signals in parts, how far they are apart, how many tenths of the cycle each band has to be wide, the lines of a
@@ -192,13 +192,13 @@ fn read(alloc: Global, text: &str) -> Result<Certificate, Fail> {
     }
 }
 
-fn certificate(alloc: Global, record: Record<'_>) -> Result<Certificate, Fail> {
+fn certificate(alloc: Global, record: TextRecord<'_>) -> Result<Certificate, Fail> {
     let (claim, tree) = (record.behind("claim")?, record.behind("tree")?);
     let text = certificate_text(alloc, claim, tree)?;
     read(alloc, text.as_str())
 }
 
-fn head(record: Record<'_>) -> Result<SampleHead, Fail> {
+fn head(record: TextRecord<'_>) -> Result<SampleHead, Fail> {
     if record.behind("least")? == "none" {
         return Ok(plain_head());
     }
@@ -210,7 +210,7 @@ fn street(alloc: Global, head: SampleHead, red: u32, distance: u32) -> Result<Ar
     two_signals(alloc, head, red, distance)
 }
 
-fn artery(alloc: Global, record: Record<'_>) -> Result<Artery, Fail> {
+fn artery(alloc: Global, record: TextRecord<'_>) -> Result<Artery, Fail> {
     let (red, distance) = (record.small("red", 0)?, record.small("apart", 0)?);
     street(alloc, head(record)?, red, distance)
 }
@@ -227,7 +227,7 @@ fn checked(
     }
 }
 
-fn answered(alloc: Global, artery: &Artery, record: Record<'_>) -> Result<String, Fail> {
+fn answered(alloc: Global, artery: &Artery, record: TextRecord<'_>) -> Result<String, Fail> {
     let certificate = certificate(alloc, record)?;
     Ok(checked(alloc, artery, &certificate)?)
 }
@@ -236,9 +236,9 @@ fn answered(alloc: Global, artery: &Artery, record: Record<'_>) -> Result<String
 #[derive(Clone, Copy, Drop)]
 struct Checks;
 
-impl Reader for Checks {
+impl TextReader for Checks {
     fn answer(&self, alloc: Global, text: &[u8]) -> Result<String, Fail> {
-        let record = Record::new(text)?;
+        let record = TextRecord::new(text)?;
         let artery = artery(alloc, record)?;
         answered(alloc, &artery, record)
     }

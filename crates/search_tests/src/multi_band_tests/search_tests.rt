@@ -13,8 +13,8 @@ use std::alloc::Global;
 use std::rt::HostRuntime;
 use std::test::Fail;
 use test_bed::{
-    Reader, Record, all_told, fraction, plain_head, plain_link, plain_signal, sample_street,
-    two_signals, with_ratio,
+    TextReader, TextRecord, all_told, fraction, plain_head, plain_link, plain_signal,
+    sample_street, two_signals, with_ratio,
 };
 
 /// Two signals with this red and so far apart, how much the inbound bands count, and a limit of work.
@@ -97,9 +97,9 @@ fn found_text(alloc: Global, artery: &Artery, limit: u64) -> Result<String, Fail
 #[derive(Clone, Copy, Drop)]
 struct Searches;
 
-impl Reader for Searches {
+impl TextReader for Searches {
     fn answer(&self, alloc: Global, text: &[u8]) -> Result<String, Fail> {
-        let record = Record::new(text)?;
+        let record = TextRecord::new(text)?;
         let ratio = fraction(record.number("ratio", 0)?, record.number("ratio", 1)?)?;
         let (red, distance) = (record.small("red", 0)?, record.small("apart", 0)?);
         let artery = two_signals(alloc, with_ratio(ratio), red, distance)?;

@@ -5,7 +5,7 @@ use artery_model::{Artery, Dir, Flaw, Head, Link, Pair, Signal, Text, Units};
 use narrow_fraction::Frac;
 use std::alloc::{AllocError, Global};
 use std::test::Fail;
-use test_bed::{Reader, Record, all_told, flaw_text, with_changes};
+use test_bed::{TextReader, TextRecord, all_told, flaw_text, with_changes};
 
 /// Signals that are alike, and so are their links; a change is that behind link 1 alone, outbound.
 static STREET: &str = "units metric
@@ -71,7 +71,7 @@ fn name(names: &str, index: usize) -> &'static str {
     }
 }
 
-fn signal(alloc: Global, record: Record<'_>, index: usize) -> Result<Signal, Fail> {
+fn signal(alloc: Global, record: TextRecord<'_>, index: usize) -> Result<Signal, Fail> {
     let places = [("red", 0), ("left", 0), ("left", 1), ("allowed", 0)];
     let [red, left_out, left_in, allowed] = four(record, places)?;
     let names = record.behind("names")?;
@@ -86,14 +86,14 @@ fn signal(alloc: Global, record: Record<'_>, index: usize) -> Result<Signal, Fai
     })
 }
 
-fn change(record: Record<'_>, index: u32) -> Result<Option<Pair>, Fail> {
+fn change(record: TextRecord<'_>, index: u32) -> Result<Option<Pair>, Fail> {
     if index == 0 && record.behind("change")? != "none" {
         return Ok(Some(pair(record, "change", 1)?));
     }
     Ok(None)
 }
 
-fn link(record: Record<'_>, index: u32) -> Result<Link, Fail> {
+fn link(record: TextRecord<'_>, index: u32) -> Result<Link, Fail> {
     let distance = record.small("distance", 0)?;
     let speed = pair(record, "speed", 1)?;
     Ok(Link {
@@ -127,14 +127,14 @@ fn head_of(units: Units, sizes: [u32; 2], cycle: Pair, least: Pair, equal: bool)
     }
 }
 
-fn head(record: Record<'_>) -> Result<Head, Fail> {
+fn head(record: TextRecord<'_>) -> Result<Head, Fail> {
     let sizes = two(record, [("version", 0), ("parts", 0)])?;
     let (cycle, least) = (pair(record, "cycle", 1)?, pair(record, "least", 1)?);
     let (name, equal) = (record.behind("units")?, record.is_set("equal")?);
     Ok(head_of(units(name), sizes, cycle, least, equal))
 }
 
-fn signals(alloc: Global, record: Record<'_>, count: u32) -> Result<Vec<Signal>, Fail> {
+fn signals(alloc: Global, record: TextRecord<'_>, count: u32) -> Result<Vec<Signal>, Fail> {
     let mut signals = Vec::new(alloc);
     for index in 0..count {
         signals.push(signal(alloc, record, index as usize)?)?;
@@ -142,7 +142,7 @@ fn signals(alloc: Global, record: Record<'_>, count: u32) -> Result<Vec<Signal>,
     Ok(signals)
 }
 
-fn made(alloc: Global, record: Record<'_>) -> Result<Result<Artery, Flaw>, Fail> {
+fn made(alloc: Global, record: TextRecord<'_>) -> Result<Result<Artery, Flaw>, Fail> {
     let counts = two(record, [("signals", 0), ("links", 0)])?;
     let signals = signals(alloc, record, counts[0])?;
     let mut links = Vec::new(alloc);
@@ -155,7 +155,7 @@ fn made(alloc: Global, record: Record<'_>) -> Result<Result<Artery, Flaw>, Fail>
 /// The artery of `STREET` with these changes.
 fn changed(alloc: Global, changes: &str) -> Result<Artery, Fail> {
     let text = with_changes(alloc, STREET, changes)?;
-    match made(alloc, Record::new(text.as_bytes())?)? {
+    match made(alloc, TextRecord::new(text.as_bytes())?)? {
         Ok(artery) => Ok(artery),
         Err(_) => Err("no artery".into()),
     }
@@ -172,9 +172,9 @@ fn told(alloc: Global, made: Result<Artery, Flaw>) -> Result<String, AllocError>
 #[derive(Clone, Copy, Drop)]
 struct Arteries;
 
-impl Reader for Arteries {
+impl TextReader for Arteries {
     fn answer(&self, alloc: Global, text: &[u8]) -> Result<String, Fail> {
-        Ok(told(alloc, made(alloc, Record::new(text)?)?)?)
+        Ok(told(alloc, made(alloc, TextRecord::new(text)?)?)?)
     }
 }
 

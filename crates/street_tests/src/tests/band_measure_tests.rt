@@ -6,7 +6,7 @@ use band_measure::{Widest, base_holds, widest};
 use progression::Dir;
 use std::alloc::Global;
 use std::test::Fail;
-use test_bed::{Record, plain_head, two_signals, with_changes};
+use test_bed::{TextRecord, plain_head, two_signals, with_changes};
 use time_space::Timing;
 
 /// Its firsts and bands are never right.
@@ -22,7 +22,7 @@ band 150 150
 
 fn timing(alloc: Global, change: &str) -> Result<Timing, Fail> {
     let text = with_changes(alloc, TIMING, change)?;
-    given::timing(alloc, Record::new(text.as_bytes())?)
+    given::timing(alloc, TextRecord::new(text.as_bytes())?)
 }
 
 /// The widest pair of a direction, where the rules that don't speak of bands hold.
@@ -42,10 +42,10 @@ fn measured(alloc: Global, parts: u32, change: &str) -> Result<[Option<Widest>; 
 }
 
 /// So many parts of both reds, a change of the timing, and the widest pairs outbound and inbound.
-type Row = (u32, &'static str, [Option<Widest>; 2]);
+type BandRow = (u32, &'static str, [Option<Widest>; 2]);
 
 /// Overlapping, filled and touching greens, and none of both.
-static ROWS: [Row; 4] = [
+static ROWS: [BandRow; 4] = [
     (
         50,
         "red 0 60",

@@ -7,7 +7,7 @@ use diagram_draw::draw;
 use std::alloc::Global;
 use std::test::Fail;
 use test_bed::{
-    Record, SampleHead, SampleSignal, paced_link, plain_head, plain_signal, range, with_changes,
+    SampleHead, SampleSignal, TextRecord, paced_link, plain_head, plain_signal, range, with_changes,
 };
 use time_space::Timing;
 
@@ -177,7 +177,7 @@ static CHANGES: [&str; 13] = [
 ];
 
 fn some_timing(alloc: Global, text: &str) -> Result<Timing, Fail> {
-    given::timing(alloc, Record::new(text.as_bytes())?)
+    given::timing(alloc, TextRecord::new(text.as_bytes())?)
 }
 
 /// The picture, with nothing said of it: what `draw` says is a long term.

@@ -3,23 +3,23 @@
 use artery_model::{Artery, Pair};
 use std::alloc::Global;
 use std::test::Fail;
-use test_bed::{Record, SampleHead, SampleLink, SampleSignal, sample_street};
+use test_bed::{SampleHead, SampleLink, SampleSignal, TextRecord, sample_street};
 use time_space::Timing;
 
 /// A name, and the place of a number behind it, counted from 0.
-type Place = (&'static str, usize);
+type ListPlace = (&'static str, usize);
 
-fn one(record: Record<'_>, place: Place) -> Result<u32, Fail> {
+fn one(record: TextRecord<'_>, place: ListPlace) -> Result<u32, Fail> {
     record.small(place.0, place.1)
 }
 
-pub fn two(record: Record<'_>, places: [Place; 2]) -> Result<[u32; 2], Fail> {
+pub fn two(record: TextRecord<'_>, places: [ListPlace; 2]) -> Result<[u32; 2], Fail> {
     let [first, second] = places;
     Ok([one(record, first)?, one(record, second)?])
 }
 
 /// Four numbers. Each question mark is dear to prove, so whoever needs so many asks for them at once.
-pub fn four(record: Record<'_>, places: [Place; 4]) -> Result<[u32; 4], Fail> {
+pub fn four(record: TextRecord<'_>, places: [ListPlace; 4]) -> Result<[u32; 4], Fail> {
     let [first, second, third, fourth] = places;
     let [first, second] = two(record, [first, second])?;
     let [third, fourth] = two(record, [third, fourth])?;
@@ -27,7 +27,7 @@ pub fn four(record: Record<'_>, places: [Place; 4]) -> Result<[u32; 4], Fail> {
 }
 
 /// The two numbers behind a name over that denominator.
-pub fn pair(record: Record<'_>, name: &str, den: i128) -> Result<Pair, Fail> {
+pub fn pair(record: TextRecord<'_>, name: &str, den: i128) -> Result<Pair, Fail> {
     let least = record.quotient(name, 0, den)?;
     let most = record.quotient(name, 1, den)?;
     Ok(Pair { least, most })
@@ -45,7 +45,7 @@ pub fn street(
     }
 }
 
-pub fn timing(alloc: Global, record: Record<'_>) -> Result<Timing, Fail> {
+pub fn timing(alloc: Global, record: TextRecord<'_>) -> Result<Timing, Fail> {
     match record.timing(alloc)? {
         Some(timing) => Ok(timing),
         None => Err("no timing".into()),

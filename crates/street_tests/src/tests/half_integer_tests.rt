@@ -7,7 +7,8 @@ use progression::Dir;
 use std::alloc::{AllocError, Global};
 use std::test::Fail;
 use test_bed::{
-    Reader, Record, SampleLink, SampleSignal, all_told, plain_head, plain_link, plain_signal,
+    SampleLink, SampleSignal, TextReader, TextRecord, all_told, plain_head, plain_link,
+    plain_signal,
 };
 use time_space::Timing;
 
@@ -62,13 +63,13 @@ fn signal(left: u32, last: u32, clear_out: u32, red: u32) -> SampleSignal {
     }
 }
 
-fn other(record: Record<'_>) -> Result<SampleSignal, Fail> {
+fn other(record: TextRecord<'_>) -> Result<SampleSignal, Fail> {
     let places = [("left", 0), ("patterns", 0), ("clear", 0), ("parts", 1)];
     let [left, last, clear_out, red] = four(record, places)?;
     Ok(signal(left, last, clear_out, red))
 }
 
-fn link(record: Record<'_>) -> Result<SampleLink, Fail> {
+fn link(record: TextRecord<'_>) -> Result<SampleLink, Fail> {
     let [distance_out, distance_in] = two(record, [("apart", 0), ("apart", 1)])?;
     Ok(SampleLink {
         distance_in,
@@ -76,7 +77,7 @@ fn link(record: Record<'_>) -> Result<SampleLink, Fail> {
     })
 }
 
-fn artery(alloc: Global, record: Record<'_>) -> Result<Artery, Fail> {
+fn artery(alloc: Global, record: TextRecord<'_>) -> Result<Artery, Fail> {
     let first = plain_signal("A", record.small("parts", 0)?);
     let (other, link) = (other(record)?, link(record)?);
     street(alloc, plain_head(), &[first, other], &[link])
@@ -101,11 +102,11 @@ fn halved_told(alloc: Global, artery: &Artery, timing: &Timing) -> Result<String
 
 /// Tells the half-cycle plan of a street's timing.
 #[derive(Clone, Copy, Drop)]
-struct Halves;
+struct HalfTimings;
 
-impl Reader for Halves {
+impl TextReader for HalfTimings {
     fn answer(&self, alloc: Global, text: &[u8]) -> Result<String, Fail> {
-        let record = Record::new(text)?;
+        let record = TextRecord::new(text)?;
         let artery = artery(alloc, record)?;
         let timing = timing(alloc, record)?;
         halved_told(alloc, &artery, &timing)
@@ -114,7 +115,7 @@ impl Reader for Halves {
 
 #[test]
 fn outcomes(rt: HostRuntime) -> Result<(), Fail> {
-    all_told(rt.alloc(), &Halves, FAR, &OUTCOMES)
+    all_told(rt.alloc(), &HalfTimings, FAR, &OUTCOMES)
 }
 
 /// The phases of two signals.
@@ -130,7 +131,7 @@ fn phases(alloc: Global, artery: &Artery, timing: &Timing) -> Option<[bool; 2]> 
 }
 
 fn phases_of(alloc: Global, text: &str) -> Result<Option<[bool; 2]>, Fail> {
-    let record = Record::new(text.as_bytes())?;
+    let record = TextRecord::new(text.as_bytes())?;
     let artery = artery(alloc, record)?;
     let timing = timing(alloc, record)?;
     Ok(phases(alloc, &artery, &timing))

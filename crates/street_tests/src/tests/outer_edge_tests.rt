@@ -15,11 +15,11 @@ use std::{fs, io, rt};
 
 /// A pipe that takes at most four bytes a call and sixteen in all, and is broken then. It tells how many it took.
 #[derive(Clone, Drop)]
-struct Narrow<'a> {
+struct NarrowReads<'a> {
     taken: &'a Cell<usize>,
 }
 
-impl Print for Narrow<'_> {
+impl Print for NarrowReads<'_> {
     fn print<D: Display + Drop>(&self, value: D) -> io::Result<()> {
         let _ = value;
         Ok(())
@@ -259,7 +259,7 @@ impl rt::Files for FaultyDisk<'_> {
 
 /// A call on files, and its answer.
 #[derive(Clone, Copy)]
-enum Step {
+enum EdgeStep {
     Put(&'static str, &'static [u8], Result<(), FileEnd>),
     /// Reads up to four bytes from a place on: how many, and what the buffer holds then.
     Read(&'static str, u64, Result<(usize, [u8; 4]), FileEnd>),
@@ -286,16 +286,16 @@ fn reads_whole<F: Files>(
     }
 }
 
-fn is_answered<F: Files>(alloc: Global, files: &mut F, step: Step) -> bool {
+fn is_answered<F: Files>(alloc: Global, files: &mut F, step: EdgeStep) -> bool {
     match step {
-        Step::Put(name, bytes, answer) => files.put(name, bytes) == answer,
-        Step::Read(name, at, answer) => read_four(files, name, at) == answer,
-        Step::Whole(name, limit, answer) => reads_whole(alloc, files, name, limit, answer),
+        EdgeStep::Put(name, bytes, answer) => files.put(name, bytes) == answer,
+        EdgeStep::Read(name, at, answer) => read_four(files, name, at) == answer,
+        EdgeStep::Whole(name, limit, answer) => reads_whole(alloc, files, name, limit, answer),
     }
 }
 
 /// How many of the calls, one after the other, are answered so up to the first that isn't.
-fn answered<F: Files>(alloc: Global, files: &mut F, steps: &[Step]) -> u64 {
+fn answered<F: Files>(alloc: Global, files: &mut F, steps: &[EdgeStep]) -> u64 {
     let mut count = 0u64;
     for step in steps {
         if !is_answered(alloc, files, *step) {
@@ -315,15 +315,19 @@ fn mem_files(alloc: Global, fail: u64, name: &str, bytes: &[u8]) -> Result<MemFi
 
 // `answered` at each kind of files, so that it is instantiated once and not in each test.
 
-fn mem_answered(alloc: Global, files: &mut MemFiles, steps: &[Step]) -> u64 {
+fn mem_answered(alloc: Global, files: &mut MemFiles, steps: &[EdgeStep]) -> u64 {
     answered(alloc, files, steps)
 }
 
-fn system_answered(alloc: Global, files: &mut RealFiles<HostRuntime>, steps: &[Step]) -> u64 {
+fn system_answered(alloc: Global, files: &mut RealFiles<HostRuntime>, steps: &[EdgeStep]) -> u64 {
     answered(alloc, files, steps)
 }
 
-fn faulty_answered(alloc: Global, files: &mut RealFiles<FaultyDisk<'_>>, steps: &[Step]) -> u64 {
+fn faulty_answered(
+    alloc: Global,
+    files: &mut RealFiles<FaultyDisk<'_>>,
+    steps: &[EdgeStep],
+) -> u64 {
     answered(alloc, files, steps)
 }
 
@@ -374,11 +378,11 @@ fn is_removed(rt: &HostRuntime, name: &str) -> bool {
     fs::remove_file(rt, name).is_ok()
 }
 
-static SURE_STEPS: [Step; 4] = [
-    Step::Put("notes", b"second", Ok(())),
-    Step::Whole("notes", 100, Ok(b"second")),
-    Step::Read("notes", 2, Ok((4, *b"cond"))),
-    Step::Read("absent", 0, Ok((0, [0; 4]))),
+static SURE_STEPS: [EdgeStep; 4] = [
+    EdgeStep::Put("notes", b"second", Ok(())),
+    EdgeStep::Whole("notes", 100, Ok(b"second")),
+    EdgeStep::Read("notes", 2, Ok((4, *b"cond"))),
+    EdgeStep::Read("absent", 0, Ok((0, [0; 4]))),
 ];
 
 fn sure_files(alloc: Global, name: &str, bytes: &[u8]) -> Result<SureFiles, Fail> {
@@ -398,15 +402,15 @@ fn sure_files_hold_what_was_put(rt: HostRuntime) -> Result<(), Fail> {
     Ok(())
 }
 
-static TO_THE_THIRD: [Step; 3] = [
-    Step::Read("notes", 1, Ok((2, *b"ld\0\0"))),
-    Step::Put("other", b"kept", Ok(())),
-    Step::Put("notes", b"new", Err(FileEnd::Failed)),
+static TO_THE_THIRD: [EdgeStep; 3] = [
+    EdgeStep::Read("notes", 1, Ok((2, *b"ld\0\0"))),
+    EdgeStep::Put("other", b"kept", Ok(())),
+    EdgeStep::Put("notes", b"new", Err(FileEnd::Failed)),
 ];
 
-static AFTER_THE_THIRD: [Step; 2] = [
-    Step::Read("absent", 0, Err(FileEnd::Failed)),
-    Step::Put("notes", b"new", Ok(())),
+static AFTER_THE_THIRD: [EdgeStep; 2] = [
+    EdgeStep::Read("absent", 0, Err(FileEnd::Failed)),
+    EdgeStep::Put("notes", b"new", Ok(())),
 ];
 
 /// Whether the third call leaves the old file, and the fifth puts the new one.
@@ -448,11 +452,11 @@ fn a_sure_output_takes_all_at_once(rt: HostRuntime) {
 }
 
 // Calls 1 and 2 read the file, 3 found it too long, 4 found no file, 5 read: the sixth fails.
-static TEN_BYTES: [Step; 4] = [
-    Step::Whole("ten", 10, Ok(b"0123456789")),
-    Step::Whole("ten", 9, Err(ReadEnd::TooLong)),
-    Step::Whole("absent", 9, Err(ReadEnd::ReadFault)),
-    Step::Whole("ten", 10, Err(ReadEnd::ReadFault)),
+static TEN_BYTES: [EdgeStep; 4] = [
+    EdgeStep::Whole("ten", 10, Ok(b"0123456789")),
+    EdgeStep::Whole("ten", 9, Err(ReadEnd::TooLong)),
+    EdgeStep::Whole("absent", 9, Err(ReadEnd::ReadFault)),
+    EdgeStep::Whole("ten", 10, Err(ReadEnd::ReadFault)),
 ];
 
 #[test]
@@ -462,16 +466,16 @@ fn ten_bytes_are_too_long_for_a_limit_of_nine(rt: HostRuntime) -> Result<(), Fai
     Ok(())
 }
 
-static PUT_AND_READ: [Step; 4] = [
-    Step::Put("outer_edge.trial", b"put and read", Ok(())),
-    Step::Whole("outer_edge.trial", 100, Ok(b"put and read")),
-    Step::Put("outer_edge.trial", b"", Ok(())),
-    Step::Whole("outer_edge.trial", 100, Ok(b"")),
+static PUT_AND_READ: [EdgeStep; 4] = [
+    EdgeStep::Put("outer_edge.trial", b"put and read", Ok(())),
+    EdgeStep::Whole("outer_edge.trial", 100, Ok(b"put and read")),
+    EdgeStep::Put("outer_edge.trial", b"", Ok(())),
+    EdgeStep::Whole("outer_edge.trial", 100, Ok(b"")),
 ];
 
-static ABSENT: [Step; 2] = [
-    Step::Read("outer_edge.trial", 0, Err(FileEnd::Failed)),
-    Step::Put("no/such/folder", b"x", Err(FileEnd::Failed)),
+static ABSENT: [EdgeStep; 2] = [
+    EdgeStep::Read("outer_edge.trial", 0, Err(FileEnd::Failed)),
+    EdgeStep::Put("no/such/folder", b"x", Err(FileEnd::Failed)),
 ];
 
 fn is_read_back(rt: &HostRuntime, files: &mut RealFiles<HostRuntime>, long: &[u8]) -> bool {
@@ -490,11 +494,11 @@ fn a_file_of_the_system_is_read_back(rt: HostRuntime) -> Result<(), Fail> {
     Ok(())
 }
 
-const NEWER: Step = Step::Put("outer_edge.full", b"newer", Err(FileEnd::Failed));
+const NEWER: EdgeStep = EdgeStep::Put("outer_edge.full", b"newer", Err(FileEnd::Failed));
 
-static OLD_AND_NEWER: [Step; 2] = [Step::Put("outer_edge.full", b"old", Ok(())), NEWER];
+static OLD_AND_NEWER: [EdgeStep; 2] = [EdgeStep::Put("outer_edge.full", b"old", Ok(())), NEWER];
 
-static AGAIN: [Step; 1] = [NEWER];
+static AGAIN: [EdgeStep; 1] = [NEWER];
 
 /// Whether the old file stands there, which is removed then, and no new one.
 fn is_old_alone(rt: &HostRuntime) -> bool {
@@ -572,7 +576,7 @@ fn make_old(rt: &HostRuntime, fault: Fault) -> bool {
 
 fn are_put_so(rt: &HostRuntime, files: &mut RealFiles<FaultyDisk<'_>>, put: &FaultyPut) -> bool {
     let before = number_of(rt, FAULTY);
-    let steps = [Step::Put(FAULTY, b"newer", put.1)];
+    let steps = [EdgeStep::Put(FAULTY, b"newer", put.1)];
     faulty_answered(rt.alloc(), files, &steps) == 1
         && (number_of(rt, FAULTY) != before) == put.3
         && system_file_is(rt, FAULTY, put.2)
@@ -612,7 +616,7 @@ fn are_removed(rt: &HostRuntime, names: &[&str]) -> bool {
     true
 }
 
-static NEWER_FIRST: [Step; 1] = [Step::Put("outer_edge.first", b"newer", Ok(()))];
+static NEWER_FIRST: [EdgeStep; 1] = [EdgeStep::Put("outer_edge.first", b"newer", Ok(()))];
 
 fn keep_two_names(rt: &HostRuntime, files: &mut RealFiles<HostRuntime>, long: &[u8]) -> bool {
     make_two_names(rt)
@@ -641,18 +645,18 @@ fn make_long(rt: &HostRuntime, name: &str) -> io::Result<()> {
 
 const LONG: &str = "outer_edge.long";
 
-static TOO_LONG: [Step; 1] = [Step::Whole(LONG, 1_048_576, Err(ReadEnd::TooLong))];
+static TOO_LONG: [EdgeStep; 1] = [EdgeStep::Whole(LONG, 1_048_576, Err(ReadEnd::TooLong))];
 
 // Each read begins where the one before ended, but the fourth, which goes back, and the last, which follows a put.
-static LONG_STEPS: [Step; 8] = [
-    Step::Read(LONG, 1_048_570, Ok((4, [0; 4]))),
-    Step::Read(LONG, 1_048_574, Ok((4, *b"\0\0ta"))),
-    Step::Read(LONG, 1_048_578, Ok((2, *b"il\0\0"))),
-    Step::Read(LONG, 1_048_577, Ok((3, *b"ail\0"))),
-    Step::Read(LONG, 1_048_580, Ok((0, [0; 4]))),
-    Step::Read(LONG, 0, Ok((4, [0; 4]))),
-    Step::Put(LONG, b"and short", Ok(())),
-    Step::Read(LONG, 4, Ok((4, *b"shor"))),
+static LONG_STEPS: [EdgeStep; 8] = [
+    EdgeStep::Read(LONG, 1_048_570, Ok((4, [0; 4]))),
+    EdgeStep::Read(LONG, 1_048_574, Ok((4, *b"\0\0ta"))),
+    EdgeStep::Read(LONG, 1_048_578, Ok((2, *b"il\0\0"))),
+    EdgeStep::Read(LONG, 1_048_577, Ok((3, *b"ail\0"))),
+    EdgeStep::Read(LONG, 1_048_580, Ok((0, [0; 4]))),
+    EdgeStep::Read(LONG, 0, Ok((4, [0; 4]))),
+    EdgeStep::Put(LONG, b"and short", Ok(())),
+    EdgeStep::Read(LONG, 4, Ok((4, *b"shor"))),
 ];
 
 fn are_read_on(
@@ -675,7 +679,7 @@ fn a_long_file_is_opened_once_and_read_on(rt: HostRuntime) -> Result<(), Fail> {
     Ok(())
 }
 
-static CUT: [Step; 1] = [Step::Whole("outer_edge.cut", 2_000_000, Err(ReadEnd::ReadFault))];
+static CUT: [EdgeStep; 1] = [EdgeStep::Whole("outer_edge.cut", 2_000_000, Err(ReadEnd::ReadFault))];
 
 fn are_cut(rt: &HostRuntime, files: &mut RealFiles<FaultyDisk<'_>>) -> bool {
     make_long(rt, "outer_edge.cut").is_ok()
@@ -721,10 +725,10 @@ fn mode_of(rt: &HostRuntime, name: &str) -> Option<u32> {
     }
 }
 
-static THROUGH_THE_LINKS: [Step; 3] = [
-    Step::Put("outer_edge.link", b"through the link", Ok(())),
-    Step::Whole("outer_edge.link", 100, Ok(b"through the link")),
-    Step::Put("outer_edge.dangling", b"made", Ok(())),
+static THROUGH_THE_LINKS: [EdgeStep; 3] = [
+    EdgeStep::Put("outer_edge.link", b"through the link", Ok(())),
+    EdgeStep::Whole("outer_edge.link", 100, Ok(b"through the link")),
+    EdgeStep::Put("outer_edge.dangling", b"made", Ok(())),
 ];
 
 /// Whether the links are still links, and the files behind them hold what was put. The first is another file than it was, and
@@ -769,9 +773,9 @@ fn a_put_keeps_links_and_other_files(rt: HostRuntime) -> Result<(), Fail> {
     Ok(())
 }
 
-static MODES: [Step; 2] = [
-    Step::Put("outer_edge.shared", b"newer", Ok(())),
-    Step::Put("outer_edge.made", b"new", Ok(())),
+static MODES: [EdgeStep; 2] = [
+    EdgeStep::Put("outer_edge.shared", b"newer", Ok(())),
+    EdgeStep::Put("outer_edge.made", b"new", Ok(())),
 ];
 
 /// Whether a file that all may write stays so, and one that wasn't there is made as the system makes one.
@@ -793,9 +797,9 @@ fn a_put_keeps_permissions(rt: HostRuntime) -> Result<(), Fail> {
     Ok(())
 }
 
-static NOT_PLAIN: [Step; 2] = [
-    Step::Read("/dev/null", 0, Err(FileEnd::Failed)),
-    Step::Read(".", 0, Err(FileEnd::Failed)),
+static NOT_PLAIN: [EdgeStep; 2] = [
+    EdgeStep::Read("/dev/null", 0, Err(FileEnd::Failed)),
+    EdgeStep::Read(".", 0, Err(FileEnd::Failed)),
 ];
 
 #[test]
@@ -807,7 +811,7 @@ fn what_is_no_plain_file_is_not_opened(rt: HostRuntime) -> Result<(), Fail> {
     Ok(())
 }
 
-static EXCHANGED: [Step; 1] = [Step::Read(FAULTY, 0, Err(FileEnd::Failed))];
+static EXCHANGED: [EdgeStep; 1] = [EdgeStep::Read(FAULTY, 0, Err(FileEnd::Failed))];
 
 fn is_exchanged(rt: &HostRuntime, files: &mut RealFiles<FaultyDisk<'_>>) -> bool {
     make_old(rt, Fault::Exchanged)
@@ -830,12 +834,12 @@ fn standard_output_takes_bytes(rt: HostRuntime) -> Result<(), Fail> {
     Ok(())
 }
 
-fn narrow_out<'a>(alloc: Global, taken: &'a Cell<usize>) -> Result<RealOut<Narrow<'a>>, Fail> {
-    Ok(RealOut::new(&Narrow { taken }, alloc)?)
+fn narrow_out<'a>(alloc: Global, taken: &'a Cell<usize>) -> Result<RealOut<NarrowReads<'a>>, Fail> {
+    Ok(RealOut::new(&NarrowReads { taken }, alloc)?)
 }
 
 /// Whether a call takes four bytes of a long text, one of nine goes in pieces, and the last has room for three of its four.
-fn takes_pieces(out: &mut RealOut<Narrow<'_>>, taken: &Cell<usize>, long: &[u8]) -> bool {
+fn takes_pieces(out: &mut RealOut<NarrowReads<'_>>, taken: &Cell<usize>, long: &[u8]) -> bool {
     writes_once(out, 2_000_000, long, Ok(4))
         && writes_whole(out, 100, b"nine more", Ok(()))
         && taken.get() == 13

@@ -16,7 +16,7 @@ use test_bed::{SampleHead, SampleSignal, plain_head, plain_link, plain_signal, r
 /// What differs between the arteries. The second numbers of a pair, the lefts, the patterns and the clearance are those
 /// of signal B.
 #[derive(Clone, Copy)]
-struct Street {
+struct BoxStreet {
     distance: u32,
     reds: [u32; 2],
     left: u32,
@@ -27,7 +27,7 @@ struct Street {
 
 const ALL: [bool; 4] = [true, true, true, true];
 
-const BASE: Street = Street {
+const BASE: BoxStreet = BoxStreet {
     distance: 500,
     reds: [50, 50],
     left: 0,
@@ -36,32 +36,32 @@ const BASE: Street = Street {
     cycle: [100, 100],
 };
 
-const NEAR: Street = Street {
+const NEAR: BoxStreet = BoxStreet {
     distance: 250,
     ..BASE
 };
 
-const WITH_LEFTS: Street = Street {
+const WITH_LEFTS: BoxStreet = BoxStreet {
     reds: [50, 40],
     left: 10,
     ..NEAR
 };
 
-fn head(street: Street) -> SampleHead {
+fn head(street: BoxStreet) -> SampleHead {
     SampleHead {
         cycle: range(street.cycle[0], street.cycle[1]),
         ..plain_head()
     }
 }
 
-fn first(street: Street) -> SampleSignal {
+fn first(street: BoxStreet) -> SampleSignal {
     SampleSignal {
         patterns: ALL,
         ..plain_signal("A", street.reds[0])
     }
 }
 
-fn second(street: Street) -> SampleSignal {
+fn second(street: BoxStreet) -> SampleSignal {
     SampleSignal {
         left_out: street.left,
         left_in: street.left,
@@ -71,7 +71,7 @@ fn second(street: Street) -> SampleSignal {
     }
 }
 
-fn artery(alloc: Global, street: Street) -> Result<Artery, Fail> {
+fn artery(alloc: Global, street: BoxStreet) -> Result<Artery, Fail> {
     let signals = [first(street), second(street)];
     let links = [plain_link(street.distance)];
     given::street(alloc, head(street), &signals, &links)
@@ -112,17 +112,17 @@ fn link_span(artery: &Artery) -> Ends {
 }
 
 /// Whether these are the spans of the root box, the first also without the box.
-fn has_root_spans(alloc: Global, street: Street, expected: [Ends; 3]) -> Result<bool, Fail> {
+fn has_root_spans(alloc: Global, street: BoxStreet, expected: [Ends; 3]) -> Result<bool, Fail> {
     let artery = artery(alloc, street)?;
     let area = root(alloc, &artery)?;
     Ok(link_span(&artery) == expected[0] && spans(&artery, &area) == expected)
 }
 
-static ROOT_BOXES: [(Street, [Ends; 3]); 7] = [
+static ROOT_BOXES: [(BoxStreet, [Ends; 3]); 7] = [
     (BASE, [[0, 2], [0, 0], [0, 0]]),
     (NEAR, [[0, 1], [0, 0], [0, 0]]),
     (
-        Street {
+        BoxStreet {
             reds: [80, 80],
             ..NEAR
         },
@@ -130,21 +130,21 @@ static ROOT_BOXES: [(Street, [Ends; 3]); 7] = [
     ),
     (WITH_LEFTS, [[0, 1], [0, 0], [0, 2]]),
     (
-        Street {
+        BoxStreet {
             distance: 2500,
             ..BASE
         },
         [[4, 6], [0, 0], [0, 0]],
     ),
     (
-        Street {
+        BoxStreet {
             clear_out: 60,
             ..BASE
         },
         [[0, 1], [0, 0], [0, 0]],
     ),
     (
-        Street {
+        BoxStreet {
             cycle: [50, 100],
             ..BASE
         },
@@ -180,7 +180,7 @@ fn shifts_told(
     signal: u32,
     shifts: &[u32],
 ) -> Result<bool, Fail> {
-    let street = Street {
+    let street = BoxStreet {
         patterns,
         ..WITH_LEFTS
     };
@@ -219,9 +219,9 @@ fn split(
 }
 
 /// The spans of two boxes, and which of them have one number each.
-type Parts = ([Ends; 3], [Ends; 3], [bool; 2]);
+type SplitParts = ([Ends; 3], [Ends; 3], [bool; 2]);
 
-fn seen(artery: &Artery, low: &SearchBox, high: &SearchBox) -> Parts
+fn seen(artery: &Artery, low: &SearchBox, high: &SearchBox) -> SplitParts
     requires low { IsBoxOf artery.now low.now }
     requires high { IsBoxOf artery.now high.now }
 {
@@ -234,7 +234,7 @@ fn parts_of(
     artery: &Artery,
     area: &SearchBox,
     place: At,
-) -> Result<Option<Parts>, Fail>
+) -> Result<Option<SplitParts>, Fail>
     requires { IsBoxOf artery.now area.now }
 {
     match split(alloc, artery, area, place)? {
@@ -244,32 +244,32 @@ fn parts_of(
 }
 
 /// Both parts of the root box.
-fn parts(alloc: Global, street: Street, place: At) -> Result<Option<Parts>, Fail> {
+fn parts(alloc: Global, street: BoxStreet, place: At) -> Result<Option<SplitParts>, Fail> {
     let artery = artery(alloc, street)?;
     let area = root(alloc, &artery)?;
     parts_of(alloc, &artery, &area, place)
 }
 
-const HALVES: Parts = (
+const HALVES: SplitParts = (
     [[0, 0], [0, 0], [0, 0]],
     [[1, 1], [0, 0], [0, 0]],
     [true, true],
 );
 
-const RANKS: Parts = (
+const RANKS: SplitParts = (
     [[0, 1], [0, 0], [0, 0]],
     [[0, 1], [0, 0], [1, 2]],
     [false, false],
 );
 
 /// Places at which a root box is split into two parts.
-static SPLITS: [(Street, At, Parts); 2] = [
+static SPLITS: [(BoxStreet, At, SplitParts); 2] = [
     (NEAR, At::Loop { link: 1, at: 0 }, HALVES),
     (WITH_LEFTS, At::Turn { signal: 2, rank: 0 }, RANKS),
 ];
 
 /// Places at which it isn't.
-static NO_SPLITS: [(Street, At); 8] = [
+static NO_SPLITS: [(BoxStreet, At); 8] = [
     (NEAR, At::Loop { link: 1, at: 1 }),
     (NEAR, At::Loop { link: 1, at: -1 }),
     (NEAR, At::Loop { link: 0, at: 0 }),
@@ -318,7 +318,7 @@ fn replaced_in(area: &mut SearchBox, place: At, new: Ends) -> Option<(Ends, Ends
 /// The same of the root box.
 fn replaced(
     alloc: Global,
-    street: Street,
+    street: BoxStreet,
     place: At,
     new: Ends,
 ) -> Result<Option<(Ends, Ends)>, Fail> {
@@ -337,7 +337,7 @@ const SUMS: At = At::Loop { link: 1, at: 0 };
 
 const SECOND_RANKS: At = At::Turn { signal: 2, rank: 1 };
 
-static REPLACEMENTS: [(Street, At, Ends, Option<(Ends, Ends)>); 6] = [
+static REPLACEMENTS: [(BoxStreet, At, Ends, Option<(Ends, Ends)>); 6] = [
     (NEAR, SUMS, [0, 3], Some(([0, 1], [0, 3]))),
     (NEAR, SUMS, [1, 1], None),
     (NEAR, At::Loop { link: 2, at: 0 }, [0, 3], None),

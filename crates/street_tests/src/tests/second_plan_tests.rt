@@ -8,7 +8,7 @@ use second_plan::{Plan, PlanEnd, PlanFault, plan};
 use std::alloc::{AllocError, Global};
 use std::test::Fail;
 use test_bed::{
-    Reader, Record, SampleHead, SampleLink, all_told, fraction, plain_head, plain_link,
+    SampleHead, SampleLink, TextReader, TextRecord, all_told, fraction, plain_head, plain_link,
     plain_signal, with_changes,
 };
 use time_space::{Timing, holds};
@@ -72,17 +72,17 @@ fn head_of(cycle: Pair, ratio: Frac, least: Pair, equal: bool) -> SampleHead {
     }
 }
 
-fn ratio(record: Record<'_>) -> Result<Frac, Fail> {
+fn ratio(record: TextRecord<'_>) -> Result<Frac, Fail> {
     let den = record.number("ratio", 1)?;
     record.quotient("ratio", 0, den)
 }
 
-fn head(record: Record<'_>, equal: bool) -> Result<SampleHead, Fail> {
+fn head(record: TextRecord<'_>, equal: bool) -> Result<SampleHead, Fail> {
     let (cycle, least) = (pair(record, "cycle", 10)?, pair(record, "least", 100)?);
     Ok(head_of(cycle, ratio(record)?, least, equal))
 }
 
-fn artery(alloc: Global, record: Record<'_>) -> Result<Artery, Fail> {
+fn artery(alloc: Global, record: TextRecord<'_>) -> Result<Artery, Fail> {
     let places = [("apart", 0), ("apart", 1), ("parts", 0), ("equal", 0)];
     let [distance_out, distance_in, red, equal] = four(record, places)?;
     let link = SampleLink {
@@ -173,7 +173,11 @@ fn plan_of(
     }
 }
 
-fn planned(alloc: Global, record: Record<'_>, claim: Frac) -> Result<Result<Plan, PlanEnd>, Fail> {
+fn planned(
+    alloc: Global,
+    record: TextRecord<'_>,
+    claim: Frac,
+) -> Result<Result<Plan, PlanEnd>, Fail> {
     let artery = artery(alloc, record)?;
     let timing = timing(alloc, record)?;
     plan_of(alloc, &artery, claim, &timing)
@@ -183,9 +187,9 @@ fn planned(alloc: Global, record: Record<'_>, claim: Frac) -> Result<Result<Plan
 #[derive(Clone, Copy, Drop)]
 struct Planner;
 
-impl Reader for Planner {
+impl TextReader for Planner {
     fn answer(&self, alloc: Global, text: &[u8]) -> Result<String, Fail> {
-        match planned(alloc, Record::new(text)?, Frac::whole(1))? {
+        match planned(alloc, TextRecord::new(text)?, Frac::whole(1))? {
             Ok(plan) => plan_text(alloc, &plan),
             Err(end) => Ok(end_text(alloc, end)?),
         }
@@ -207,7 +211,7 @@ fn a_small_claim_is_refused(rt: HostRuntime) -> Result<(), Fail> {
         right: fraction(99, 100)?,
     };
     let text = with_changes(rt.alloc(), STREET, "apart 505 505")?;
-    match planned(rt.alloc(), Record::new(text.as_bytes())?, small)? {
+    match planned(rt.alloc(), TextRecord::new(text.as_bytes())?, small)? {
         Ok(_) => Err("a plan".into()),
         Err(end) => {
             assert!(rt; end == PlanEnd::Wide(wide));

@@ -7,7 +7,8 @@ use speed_steps::{Way, limits_changed, stays, street_moved};
 use std::alloc::{AllocError, Global};
 use std::test::Fail;
 use test_bed::{
-    Reader, Record, SampleHead, SampleLink, all_told, plain_head, plain_link, plain_signal, range,
+    SampleHead, SampleLink, TextReader, TextRecord, all_told, plain_head, plain_link, plain_signal,
+    range,
 };
 
 /// A length in both directions, outbound limits of speed in tenths, and inbound ones of 50; English where `english` is 1, outwards where
@@ -57,7 +58,7 @@ fn link(distance: u32, speed_out: Pair) -> SampleLink {
     }
 }
 
-fn artery(alloc: Global, record: Record<'_>) -> Result<Artery, Fail> {
+fn artery(alloc: Global, record: TextRecord<'_>) -> Result<Artery, Fail> {
     let [english, distance] = two(record, [("english", 0), ("apart", 0)])?;
     let speed = pair(record, "speed", 10)?;
     let signals = [plain_signal("A", 50), plain_signal("B", 50)];
@@ -114,9 +115,9 @@ fn told(alloc: Global, way: Way, artery: &Artery) -> Result<String, Fail> {
 #[derive(Clone, Copy, Drop)]
 struct Mover;
 
-impl Reader for Mover {
+impl TextReader for Mover {
     fn answer(&self, alloc: Global, text: &[u8]) -> Result<String, Fail> {
-        let record = Record::new(text)?;
+        let record = TextRecord::new(text)?;
         let outwards = record.small("outwards", 0)?;
         let artery = artery(alloc, record)?;
         told(alloc, way(outwards), &artery)

@@ -8,8 +8,8 @@ use second_plan::{PlanEnd, PlanFault};
 use std::alloc::{AllocError, Global};
 use std::test::Fail;
 use test_bed::{
-    Reader, Record, SampleHead, SampleLink, all_told, plain_head, plain_link, plain_signal, range,
-    with_changes,
+    SampleHead, SampleLink, TextReader, TextRecord, all_told, plain_head, plain_link, plain_signal,
+    range, with_changes,
 };
 use time_space::{Base, check_base};
 use whole_offsets::{OffsetPlan, is_better, steady};
@@ -63,13 +63,13 @@ fn link_of(distances: [u32; 2], speed_out: Pair, speed_in: Pair) -> SampleLink {
     }
 }
 
-fn link(record: Record<'_>) -> Result<SampleLink, Fail> {
+fn link(record: TextRecord<'_>) -> Result<SampleLink, Fail> {
     let distances = two(record, [("apart", 0), ("apart", 1)])?;
     let (speed_out, speed_in) = (pair(record, "speed", 10)?, pair(record, "speed", 10)?);
     Ok(link_of(distances, speed_out, speed_in))
 }
 
-fn artery(alloc: Global, record: Record<'_>) -> Result<Artery, Fail> {
+fn artery(alloc: Global, record: TextRecord<'_>) -> Result<Artery, Fail> {
     let red = record.small("parts", 0)?;
     let signals = [plain_signal("A", red), plain_signal("B", red)];
     let head = head_of(pair(record, "least", 100)?);
@@ -95,7 +95,7 @@ fn plan_of(alloc: Global, artery: &Artery, base: &Base) -> Result<OffsetPlan, Fa
     }
 }
 
-fn plan(alloc: Global, record: Record<'_>) -> Result<OffsetPlan, Fail> {
+fn plan(alloc: Global, record: TextRecord<'_>) -> Result<OffsetPlan, Fail> {
     let artery = artery(alloc, record)?;
     let timing = timing(alloc, record)?;
     plan_of(alloc, &artery, timing.base())
@@ -141,29 +141,29 @@ fn plan_text(alloc: Global, plan: &OffsetPlan) -> Result<String, Fail> {
 
 /// Plans the timing of a street.
 #[derive(Clone, Copy, Drop)]
-struct Planner;
+struct OffsetPlanner;
 
-impl Reader for Planner {
+impl TextReader for OffsetPlanner {
     fn answer(&self, alloc: Global, text: &[u8]) -> Result<String, Fail> {
-        plan_text(alloc, &plan(alloc, Record::new(text)?)?)
+        plan_text(alloc, &plan(alloc, TextRecord::new(text)?)?)
     }
 }
 
 #[test]
 fn plans_are_steady(rt: HostRuntime) -> Result<(), Fail> {
-    all_told(rt.alloc(), &Planner, STREET, &PLANS)
+    all_told(rt.alloc(), &OffsetPlanner, STREET, &PLANS)
 }
 
 /// The wider of two good plans is better.
 #[test]
 fn wider_is_better(rt: HostRuntime) -> Result<(), Fail> {
-    let wide = plan(rt.alloc(), Record::new(STREET.as_bytes())?)?;
+    let wide = plan(rt.alloc(), TextRecord::new(STREET.as_bytes())?)?;
     let text = with_changes(
         rt.alloc(),
         STREET,
         "apart 505 505|red 0 101|run_out 101|run_in 101|first 100 1",
     )?;
-    let narrow = plan(rt.alloc(), Record::new(text.as_bytes())?)?;
+    let narrow = plan(rt.alloc(), TextRecord::new(text.as_bytes())?)?;
     assert!(rt; is_better(&wide, &narrow));
     assert!(rt; !is_better(&narrow, &wide));
     Ok(())

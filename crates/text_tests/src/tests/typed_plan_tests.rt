@@ -7,7 +7,7 @@ use plan_text::write_timing;
 use std::alloc::{AllocError, Global};
 use std::rt::HostRuntime;
 use std::test::Fail;
-use test_bed::{Reader, all_told, flaw_text};
+use test_bed::{TextReader, all_told, flaw_text};
 use time_space::Timing;
 use typed_plan::{Measured, TypedFault, timing_of};
 
@@ -169,7 +169,7 @@ struct Plans<'a> {
     artery: &'a Artery,
 }
 
-impl Reader for Plans<'_> {
+impl TextReader for Plans<'_> {
     fn answer(&self, alloc: Global, text: &[u8]) -> Result<String, Fail> {
         match plan_of(alloc, text) {
             Ok(plan) => timed(alloc, self.artery, &plan),

@@ -71,7 +71,7 @@ fn verdict_of(verdict: &Verdict<u8>) -> (&'static str, u64) {
 
 /// What a search is to tell.
 #[derive(Clone, Copy)]
-struct Told {
+struct ToldToy {
     verdict: (&'static str, u64),
     letters: &'static str,
     spent: u64,
@@ -88,7 +88,7 @@ fn has_best(found: &Found<i64, u8>, best: Option<(i64, i64)>) -> bool {
     }
 }
 
-fn is_told(found: &Found<i64, u8>, told: &Told) -> bool {
+fn is_told(found: &Found<i64, u8>, told: &ToldToy) -> bool {
     verdict_of(&found.verdict) == told.verdict
         && has_shape(found.nodes.as_slice(), told.letters.as_bytes())
         && found.spent == told.spent
@@ -96,14 +96,14 @@ fn is_told(found: &Found<i64, u8>, told: &Told) -> bool {
 }
 
 /// Whether a search with this cap and this limit of work tells this.
-fn tells(alloc: Global, cap: i64, limit: u64, told: &Told) -> Result<bool, Fail>
+fn tells(alloc: Global, cap: i64, limit: u64, told: &ToldToy) -> Result<bool, Fail>
     requires { 0 < limit }
 {
     let found = found(alloc, cap, limit)?;
     Ok(is_told(&found, told))
 }
 
-static BEST: Told = Told {
+static BEST: ToldToy = ToldToy {
     verdict: ("best", 0),
     letters: "ssccc",
     spent: 10,
@@ -118,7 +118,7 @@ fn the_best_is_found(rt: HostRuntime) -> Result<(), Fail> {
 
 #[test]
 fn an_infeasible_root_leaves_no_timing(rt: HostRuntime) -> Result<(), Fail> {
-    let told = Told {
+    let told = ToldToy {
         verdict: ("no timing", 0),
         letters: "c",
         spent: 2,
@@ -139,7 +139,7 @@ fn work_runs_out(rt: HostRuntime) -> Result<(), Fail> {
         (9, "swc", (2, 1)),
     ];
     for (limit, letters, best) in rows {
-        let told = Told {
+        let told = ToldToy {
             verdict: ("work", limit),
             letters,
             spent: limit,
@@ -153,7 +153,7 @@ fn work_runs_out(rt: HostRuntime) -> Result<(), Fail> {
 
 #[test]
 fn a_refusal_stops_at_the_root(rt: HostRuntime) -> Result<(), Fail> {
-    let told = Told {
+    let told = ToldToy {
         verdict: ("wide", 0),
         letters: "w",
         spent: 1,

@@ -13,7 +13,7 @@ use fraction_tableau::Tableau;
 use loop_rows::column_count;
 use named_row::{Place, Row, RowId};
 use narrow_fraction::Frac;
-use program_builder::{ArteryTable, make_loaded, make_tableau, reset_from, start};
+use program_builder::{make_loaded, make_unloaded, reset_from, start};
 use search_box::SearchBox;
 use std::alloc::Global;
 use std::process::Abort;
@@ -48,7 +48,7 @@ pub fn loaded(alloc: Global, artery: &Artery, area: &SearchBox) -> Result<Tablea
 fn blank(alloc: Global, artery: &Artery) -> Result<Tableau, Fail>
     ensures { IfOk result (λ tableau. IsMadeFor artery.now tableau) }
 {
-    let tableau = make_tableau(alloc, &ArteryTable { artery })?;
+    let tableau = make_unloaded(alloc, artery)?;
     Ok(tableau)
 }
 

@@ -7,7 +7,8 @@ use plan_text::{BadText, CertNode, Claim, TextEnd};
 use std::alloc::Global;
 use std::test::*;
 use test_bed::{
-    Reader, all_ends_told, all_texts_told, all_told, fraction, told_again, written_without_timing,
+    TextReader, all_ends_told, all_texts_told, all_told, fraction, told_again,
+    written_without_timing,
 };
 
 /// A best link timing of three signals, with a split and two leaves.
@@ -103,9 +104,9 @@ static CHANGED: [&str; 43] = [
 
 /// The reader of link certificates: it answers with the first bad line, or whether one is written again as it was.
 #[derive(Clone, Copy, Drop)]
-struct Links;
+struct LinkTexts;
 
-impl Reader for Links {
+impl TextReader for LinkTexts {
     fn answer(&self, alloc: Global, text: &[u8]) -> Result<String, Fail> {
         match read_links(alloc, text) {
             Ok(links) => Ok(told_again(alloc, text, write_links(alloc, &links).ok())?),
@@ -117,11 +118,11 @@ impl Reader for Links {
 
 #[test]
 fn link_texts_are_read_and_judged(rt: HostRuntime) -> Result<(), Fail> {
-    all_texts_told(rt.alloc(), &Links, &TEXTS)?;
-    all_told(rt.alloc(), &Links, OPEN, &[" -> read"])?;
-    all_told(rt.alloc(), &Links, BEST, &CHANGED)?;
+    all_texts_told(rt.alloc(), &LinkTexts, &TEXTS)?;
+    all_told(rt.alloc(), &LinkTexts, OPEN, &[" -> read"])?;
+    all_told(rt.alloc(), &LinkTexts, BEST, &CHANGED)?;
     for text in [BEST, OPEN] {
-        all_ends_told(rt.alloc(), &Links, text)?;
+        all_ends_told(rt.alloc(), &LinkTexts, text)?;
     }
     Ok(())
 }

@@ -7,7 +7,7 @@ use narrow_fraction::Frac;
 use std::alloc::{AllocError, Global};
 use std::test::Fail;
 use test_bed::{
-    Reader, Record, SampleLink, SampleSignal, all_told, fraction, plain_link, plain_signal,
+    SampleLink, SampleSignal, TextReader, TextRecord, all_told, fraction, plain_link, plain_signal,
     sample_street, with_ratio,
 };
 use time_space::LIMIT;
@@ -111,7 +111,7 @@ fn signal(name: &'static str, red: u32) -> SampleSignal {
 /// The street of these signals and links, with the record's ratio.
 fn street(
     alloc: Global,
-    record: Record<'_>,
+    record: TextRecord<'_>,
     signals: &[SampleSignal],
     links: &[SampleLink],
 ) -> Result<Artery, Fail> {
@@ -122,7 +122,7 @@ fn street(
     }
 }
 
-fn short_artery(alloc: Global, record: Record<'_>) -> Result<Artery, Fail> {
+fn short_artery(alloc: Global, record: TextRecord<'_>) -> Result<Artery, Fail> {
     let next = SampleSignal {
         left_out: record.small("left", 0)?,
         left_in: record.small("left", 1)?,
@@ -136,21 +136,21 @@ fn short_artery(alloc: Global, record: Record<'_>) -> Result<Artery, Fail> {
     street(alloc, record, &[signal("A", 50), next], &[link])
 }
 
-fn long_artery(alloc: Global, record: Record<'_>) -> Result<Artery, Fail> {
+fn long_artery(alloc: Global, record: TextRecord<'_>) -> Result<Artery, Fail> {
     let last = signal("C", record.small("parts", 0)?);
     let signals = [signal("A", 50), signal("B", 50), last];
     street(alloc, record, &signals, &[plain_link(500), plain_link(500)])
 }
 
 /// The grid, the unit and where the first lines cross.
-fn places(record: Record<'_>) -> Result<[u128; 4], Fail> {
+fn places(record: TextRecord<'_>) -> Result<[u128; 4], Fail> {
     let (grid, unit) = (record.natural("grid", 0)?, record.natural("unit", 0)?);
     let (first_out, first_in) = (record.natural("first", 0)?, record.natural("first", 1)?);
     Ok([grid, unit, first_out, first_in])
 }
 
 /// The patterns and the reds.
-fn reds(alloc: Global, record: Record<'_>) -> Result<(Vec<u32>, Vec<u128>), Fail> {
+fn reds(alloc: Global, record: TextRecord<'_>) -> Result<(Vec<u32>, Vec<u128>), Fail> {
     let patterns = record.smalls(alloc, "pattern")?;
     Ok((patterns, record.naturals(alloc, "red")?))
 }
@@ -158,7 +158,7 @@ fn reds(alloc: Global, record: Record<'_>) -> Result<(Vec<u32>, Vec<u128>), Fail
 /// The numbers behind two names.
 fn both(
     alloc: Global,
-    record: Record<'_>,
+    record: TextRecord<'_>,
     out: &str,
     back: &str,
 ) -> Result<(Vec<u128>, Vec<u128>), Fail> {
@@ -178,7 +178,7 @@ fn timing_of(
     )
 }
 
-fn timing(alloc: Global, record: Record<'_>) -> Result<Option<LinkTiming>, Fail> {
+fn timing(alloc: Global, record: TextRecord<'_>) -> Result<Option<LinkTiming>, Fail> {
     let places = places(record)?;
     let reds = reds(alloc, record)?;
     let runs = both(alloc, record, "run_out", "run_in")?;
@@ -217,14 +217,14 @@ fn judged_timing(
 }
 
 /// The same of the record's timing.
-fn judged(alloc: Global, artery: &Artery, record: Record<'_>) -> Result<String, Fail> {
+fn judged(alloc: Global, artery: &Artery, record: TextRecord<'_>) -> Result<String, Fail> {
     match timing(alloc, record)? {
         Some(timing) => Ok(judged_timing(alloc, artery, &timing)?),
         None => Err("no timing".into()),
     }
 }
 
-fn artery(alloc: Global, record: Record<'_>) -> Result<Artery, Fail> {
+fn artery(alloc: Global, record: TextRecord<'_>) -> Result<Artery, Fail> {
     match record.small("links", 0)? {
         1 => short_artery(alloc, record),
         _ => long_artery(alloc, record),
@@ -235,9 +235,9 @@ fn artery(alloc: Global, record: Record<'_>) -> Result<Artery, Fail> {
 #[derive(Clone, Copy, Drop)]
 struct Judge;
 
-impl Reader for Judge {
+impl TextReader for Judge {
     fn answer(&self, alloc: Global, text: &[u8]) -> Result<String, Fail> {
-        let record = Record::new(text)?;
+        let record = TextRecord::new(text)?;
         let artery = artery(alloc, record)?;
         judged(alloc, &artery, record)
     }
@@ -247,10 +247,10 @@ impl Reader for Judge {
 #[derive(Clone, Copy, Drop)]
 struct Longer;
 
-impl Reader for Longer {
+impl TextReader for Longer {
     fn answer(&self, alloc: Global, text: &[u8]) -> Result<String, Fail> {
-        let artery = long_artery(alloc, Record::new(LONG.as_bytes())?)?;
-        judged(alloc, &artery, Record::new(text)?)
+        let artery = long_artery(alloc, TextRecord::new(LONG.as_bytes())?)?;
+        judged(alloc, &artery, TextRecord::new(text)?)
     }
 }
 

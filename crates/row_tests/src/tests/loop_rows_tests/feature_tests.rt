@@ -22,7 +22,7 @@ const WIDTH: u32 = 16;
 
 /// A good timing's point in ticks, and the rows that it meets with equality, each by its family and its index.
 #[derive(Clone, Copy)]
-struct Case {
+struct FeatureCase {
     ticks: [i128; 16],
     tight: &'static str,
 }
@@ -149,26 +149,26 @@ fn share(ticks: i128) -> Frac {
     fraction_or_zero(ticks, 200)
 }
 
-static WORKED: [Case; 4] = [
+static WORKED: [FeatureCase; 4] = [
     // Outbound lines cross at 100, 190 and 290, inbound ones at 108, 220 and 300; the middle signal has pattern 3.
-    Case {
+    FeatureCase {
         ticks: [100, 60, 2, 0, 0, 0, 40, 18, 22, 100, 100, 80, 120, 0, 12, 0],
         tight: "1.1 1.3 2.1 16.1 16.3 17.1 17.2 17.3",
     },
     // The second outbound run is as much slower as the change of pace allows.
-    Case {
+    FeatureCase {
         ticks: [90, 60, 2, 0, 0, 10, 40, 18, 22, 100, 110, 80, 120, 0, 12, 0],
         tight: "1.3 2.1 7.1 16.1 16.3 17.1 17.2 17.3",
     },
     // Bands of width 0; the outbound line crosses the outer signals at the first tick of their reds.
-    Case {
+    FeatureCase {
         ticks: [
             0, 0, 2, 100, 100, 100, 100, 78, 82, 100, 100, 80, 120, 0, 12, 0,
         ],
         tight: "1.1 1.3 2.1 13.0 16.1 16.3 17.1 17.2 17.3",
     },
     // Pattern 1 at the middle signal, whose common red starts 12 ticks later.
-    Case {
+    FeatureCase {
         ticks: [100, 60, 2, 0, 0, 0, 40, 30, 22, 100, 100, 80, 120, 0, 0, 0],
         tight: "1.1 1.3 2.1 16.1 16.2 16.3 17.1 17.3",
     },
@@ -183,7 +183,7 @@ fn has_whole_sums(artery: &Artery, point: &Point) -> bool
 }
 
 /// The names of the rows that a case's point meets with equality, where it meets all and both block sums are 1.
-fn met(alloc: Global, artery: &Artery, case: &Case) -> Result<String, Fail>
+fn met(alloc: Global, artery: &Artery, case: &FeatureCase) -> Result<String, Fail>
     requires { count artery.now ≡ 3 }
 {
     let values = case.ticks.map(share);
@@ -196,7 +196,7 @@ fn met(alloc: Global, artery: &Artery, case: &Case) -> Result<String, Fail>
 }
 
 /// Fails where those are other names than the case's.
-fn case_told(alloc: Global, artery: &Artery, case: &Case) -> Result<(), Fail>
+fn case_told(alloc: Global, artery: &Artery, case: &FeatureCase) -> Result<(), Fail>
     requires { count artery.now ≡ 3 }
 {
     let tight = met(alloc, artery, case)?;

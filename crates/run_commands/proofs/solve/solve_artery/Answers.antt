@@ -1,5 +1,9 @@
 use Rattle.std.proofs.Common.{refl}
+use Rattle.box_search.proofs.EndsAt.{ends_at}
 use Rattle.run_commands.proofs.solve.solve_artery.Goals as goal
+
+pub report-requires-clause-site : goal.report-requires-clause-site
+report-requires-clause-site c = ends_at (λ site h. h.boxed) c.in_ok-searched.searched.found.verdict c.in_ok-searched.ensures.searched.site
 
 pub returns-clause-finds : goal.returns-clause-finds
 returns-clause-finds c = (

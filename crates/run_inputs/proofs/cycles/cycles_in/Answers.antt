@@ -16,7 +16,7 @@ loop-word-preserved g c =
     let before = c.loop-word.cycles.items in
     let cycle = c.known.result in
     record {
-      cycles = cycles_more g.T.Cycle.value string_bytes c.args.words.now c.loop-word.word-index c.word-item.result before c.push.new.cycles.items cycle c.loop-word-test.true
+      cycles = cycles_more g.T.Cycle.value string_bytes c.args.words.now c.loop-word.word-index c.word-item.result before c.push.new.items.items cycle c.loop-word-test.true
           c.word-item.is c.in_ok-push.ensures
           c.loop-word.invariant.cycles (subst (λ (word : List ℕ). g.T.Cycle.value word ≡ Some cycle) c.as_str.ensures.value c.known.ensures.value);
       limits = rw c.in_ok-push.ensures (All-push g.T.Cycle.InLimits before cycle c.loop-word.invariant.limits c.known.ensures.limits);

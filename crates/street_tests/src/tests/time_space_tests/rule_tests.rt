@@ -4,7 +4,7 @@ use super::streets::{artery, parts_of, signal, street_of, street_text, street_wi
 use artery_model::Artery;
 use std::alloc::{AllocError, Global};
 use std::test::Fail;
-use test_bed::{Reader, Record, SampleLink, all_told, plain_link, range};
+use test_bed::{SampleLink, TextReader, TextRecord, all_told, plain_link, range};
 use time_space::{Failing, Timing, base_holds, holds};
 
 /// Changes of `street_text`, and the first rule that is broken.
@@ -124,9 +124,9 @@ fn judged_told(
     Ok(told(alloc, judged(artery, timing, speak_of_bands))?)
 }
 
-impl Reader for Rules {
+impl TextReader for Rules {
     fn answer(&self, alloc: Global, text: &[u8]) -> Result<String, Fail> {
-        let record = Record::new(text)?;
+        let record = TextRecord::new(text)?;
         let artery = artery(alloc, record)?;
         let timing = timing(alloc, record)?;
         judged_told(alloc, &artery, &timing, self.speak_of_bands)
@@ -139,9 +139,9 @@ struct RulesOf<'a> {
     artery: &'a Artery,
 }
 
-impl Reader for RulesOf<'_> {
+impl TextReader for RulesOf<'_> {
     fn answer(&self, alloc: Global, text: &[u8]) -> Result<String, Fail> {
-        let timing = timing(alloc, Record::new(text)?)?;
+        let timing = timing(alloc, TextRecord::new(text)?)?;
         judged_told(alloc, self.artery, &timing, true)
     }
 }
@@ -164,7 +164,7 @@ fn long_artery(alloc: Global) -> Result<Artery, Fail> {
     let halved = street_with(alloc, "halves 1")?;
     street_of(
         alloc,
-        Record::new(halved.as_bytes())?,
+        TextRecord::new(halved.as_bytes())?,
         &signals,
         &[before, after],
     )

@@ -7,7 +7,7 @@ use narrow_fraction::Frac;
 use std::alloc::{AllocError, Global};
 use std::test::Fail;
 use test_bed::{
-    Record, SampleHead, SampleLink, SampleSignal, WHOLE_GREEN, plain_head, plain_link,
+    SampleHead, SampleLink, SampleSignal, TextRecord, WHOLE_GREEN, plain_head, plain_link,
     plain_signal, with_changes,
 };
 
@@ -40,7 +40,7 @@ fn head_of(version: u32, ratio: Frac, least: Pair, equal: bool) -> SampleHead {
     }
 }
 
-fn head(record: Record<'_>) -> Result<SampleHead, Fail> {
+fn head(record: TextRecord<'_>) -> Result<SampleHead, Fail> {
     let [version, equal] = two(record, [("version", 0), ("equal", 0)])?;
     let ratio = record.quotient("halves", 0, 2)?;
     let least = pair(record, "least", 10)?;
@@ -49,22 +49,22 @@ fn head(record: Record<'_>) -> Result<SampleHead, Fail> {
 
 /// What differs between signals: the red, both left turns and the outbound clearance.
 #[derive(Clone, Copy)]
-pub struct Parts {
+pub struct RedParts {
     red: u32,
     left: u32,
     clear_out: u32,
 }
 
 /// A red of so many parts, and nothing else.
-pub fn parts_of(red: u32) -> Parts {
-    Parts {
+pub fn parts_of(red: u32) -> RedParts {
+    RedParts {
         red,
         left: 0,
         clear_out: 0,
     }
 }
 
-pub fn signal(name: &'static str, parts: Parts) -> SampleSignal {
+pub fn signal(name: &'static str, parts: RedParts) -> SampleSignal {
     SampleSignal {
         left_out: parts.left,
         left_in: parts.left,
@@ -77,17 +77,17 @@ pub fn signal(name: &'static str, parts: Parts) -> SampleSignal {
 /// The street of these signals and links whose other values the record has.
 pub fn street_of(
     alloc: Global,
-    record: Record<'_>,
+    record: TextRecord<'_>,
     signals: &[SampleSignal],
     links: &[SampleLink],
 ) -> Result<Artery, Fail> {
     street(alloc, head(record)?, signals, links)
 }
 
-pub fn artery(alloc: Global, record: Record<'_>) -> Result<Artery, Fail> {
+pub fn artery(alloc: Global, record: TextRecord<'_>) -> Result<Artery, Fail> {
     let places = [("parts", 0), ("left", 0), ("clear", 0), ("apart", 0)];
     let [red, left, clear_out, apart] = four(record, places)?;
-    let second = Parts {
+    let second = RedParts {
         red,
         left,
         clear_out,

@@ -5,7 +5,7 @@ use artery_model::Artery;
 use progression::Dir;
 use std::alloc::Global;
 use std::test::Fail;
-use test_bed::{Reader, Record, all_told, with_changes};
+use test_bed::{TextReader, TextRecord, all_told, with_changes};
 use time_space::{Base, Timing, green, in_band, value};
 
 /// Tells the numerator and the denominator of the weighted band.
@@ -23,9 +23,9 @@ fn worth_told(alloc: Global, artery: &Artery, timing: &Timing) -> Result<String,
     Ok(format!(in alloc; "{num}/{den}")?)
 }
 
-impl Reader for Weighted {
+impl TextReader for Weighted {
     fn answer(&self, alloc: Global, text: &[u8]) -> Result<String, Fail> {
-        let record = Record::new(text)?;
+        let record = TextRecord::new(text)?;
         let artery = artery(alloc, record)?;
         let timing = timing(alloc, record)?;
         worth_told(alloc, &artery, &timing)
@@ -79,7 +79,7 @@ fn is_all_seen(artery: &Artery, timing: &Timing) -> bool {
     true
 }
 
-fn is_seen_of(alloc: Global, street: Record<'_>) -> Result<bool, Fail> {
+fn is_seen_of(alloc: Global, street: TextRecord<'_>) -> Result<bool, Fail> {
     let artery = artery(alloc, street)?;
     let timing = timing(alloc, street)?;
     Ok(is_all_seen(&artery, &timing))
@@ -88,7 +88,7 @@ fn is_seen_of(alloc: Global, street: Record<'_>) -> Result<bool, Fail> {
 #[test]
 fn what_is_seen_at_a_signal(rt: HostRuntime) -> Result<(), Fail> {
     let text = street_text(rt.alloc())?;
-    assert!(rt; is_seen_of(rt.alloc(), Record::new(text.as_bytes())?)?);
+    assert!(rt; is_seen_of(rt.alloc(), TextRecord::new(text.as_bytes())?)?);
     Ok(())
 }
 
@@ -141,7 +141,7 @@ fn has_numbers(timing: &Timing) -> bool {
 /// Whether there is no timing of a text with this change.
 fn is_outside(alloc: Global, base: &str, change: &str) -> Result<bool, Fail> {
     let text = with_changes(alloc, base, change)?;
-    let record = Record::new(text.as_bytes())?;
+    let record = TextRecord::new(text.as_bytes())?;
     Ok(record.timing(alloc)?.is_none())
 }
 
@@ -150,13 +150,13 @@ fn are_outside(alloc: Global, base: &str) -> Result<bool, Fail> {
 }
 
 fn is_read_back(alloc: Global, half_band: &str) -> Result<bool, Fail> {
-    let read = timing(alloc, Record::new(half_band.as_bytes())?)?;
+    let read = timing(alloc, TextRecord::new(half_band.as_bytes())?)?;
     Ok(has_numbers(&read))
 }
 
 /// Whether a copy of the base of a timing, banded as the timing is, has its numbers.
 fn is_copied(alloc: Global, half_band: &str) -> Result<bool, Fail> {
-    let read = timing(alloc, Record::new(half_band.as_bytes())?)?;
+    let read = timing(alloc, TextRecord::new(half_band.as_bytes())?)?;
     let copy = read.base().copied(alloc)?;
     Ok(has_numbers(&copy.banded(100, 100, 150, 0)))
 }

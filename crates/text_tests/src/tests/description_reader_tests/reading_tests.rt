@@ -118,19 +118,19 @@ fn first_other(artery: &Artery, signals: &[AtSignal]) -> u32 {
 }
 
 /// A fraction: its numerator and its denominator.
-type Number = (i128, i128);
+type ReadNumber = (i128, i128);
 
-fn fraction(number: Number) -> Frac {
+fn fraction(number: ReadNumber) -> Frac {
     fraction_or_zero(number.0, number.1)
 }
 
 /// Whether two limits are these fractions.
-fn are(limits: Pair, least: Number, most: Number) -> bool {
+fn are(limits: Pair, least: ReadNumber, most: ReadNumber) -> bool {
     fraction(least) == limits.least && fraction(most) == limits.most
 }
 
 /// Whether there are limits, and they are these fractions.
-fn are_given(limits: Option<Pair>, least: Number, most: Number) -> bool {
+fn are_given(limits: Option<Pair>, least: ReadNumber, most: ReadNumber) -> bool {
     match limits {
         Some(limits) => are(limits, least, most),
         None => false,
@@ -225,7 +225,7 @@ fn has_base_names(artery: &Artery) -> bool {
 }
 
 /// Whether the greatest outbound speed of the only link is this one.
-fn has_greatest_speed(links: &[Link], want: Number) -> bool {
+fn has_greatest_speed(links: &[Link], want: ReadNumber) -> bool {
     let [link] = links else {
         return false;
     };

@@ -4,7 +4,7 @@ use artery_model::Flaw;
 use description_reader::{Artery, read_artery};
 use std::alloc::Global;
 use std::test::Fail;
-use test_bed::{Reader, flaw_text, with_changes};
+use test_bed::{TextReader, flaw_text, with_changes};
 
 /// Three signals, and every key that there is.
 pub static EVERY_KEY: &str = "version = 1
@@ -68,7 +68,7 @@ pub fn read_changed(alloc: Global, base: &str, changes: &str) -> Result<Artery, 
 #[derive(Clone, Copy, Drop)]
 pub struct Descriptions;
 
-impl Reader for Descriptions {
+impl TextReader for Descriptions {
     fn answer(&self, alloc: Global, text: &[u8]) -> Result<String, Fail> {
         match read(alloc, text) {
             Ok(_) => Ok(String::from_str(alloc, "described")?),

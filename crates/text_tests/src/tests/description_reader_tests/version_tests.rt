@@ -75,10 +75,10 @@ fn street(alloc: Global, version: &str, signals: u32) -> Result<String, AllocErr
 }
 
 /// A version's line, a number of signals, and what is answered for a street of so many.
-type Size = (&'static str, u32, &'static str);
+type TextSize = (&'static str, u32, &'static str);
 
 /// How many signals each version has.
-static SIZES: [Size; 10] = [
+static SIZES: [TextSize; 10] = [
     ("", 16, "described"),
     ("", 17, "OutOfRange signal"),
     ("version = 1\n", 16, "described"),

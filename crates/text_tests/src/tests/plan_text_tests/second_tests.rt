@@ -8,9 +8,9 @@ use std::test::*;
 use test_bed::{WORKED_LISTED, worked_text};
 
 /// A certificate's text in format 1, and that in format 2.
-type Case = (&'static str, &'static str);
+type SecondCase = (&'static str, &'static str);
 
-static CASES: [Case; 8] = [
+static CASES: [SecondCase; 8] = [
     // Multipliers of 1.
     (
         "maxband-certificate 1\nverdict none\ntree\nleaf 2\nwout 1 1\nwin 1 1\nend\n",

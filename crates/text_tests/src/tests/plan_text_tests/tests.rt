@@ -4,7 +4,7 @@ use plan_text::*;
 use progression::Dir;
 use std::alloc::{AllocError, Global};
 use std::test::*;
-use test_bed::{Reader, WHOLE_GREEN, all_texts_told, all_told, told_again};
+use test_bed::{TextReader, WHOLE_GREEN, all_texts_told, all_told, told_again};
 use time_space::Timing;
 
 /// Timings of 17 and of 24 signals, which are read.
@@ -134,7 +134,7 @@ fn end_text(alloc: Global, end: TextEnd) -> Result<String, Fail> {
     }
 }
 
-impl Reader for Texts {
+impl TextReader for Texts {
     fn answer(&self, alloc: Global, text: &[u8]) -> Result<String, Fail> {
         let again = match self {
             Texts::Timings => timing_again(alloc, text),
