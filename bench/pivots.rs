@@ -176,12 +176,12 @@ struct Tableau {
 /// The place of the first refused operation does not matter here.
 struct Wide;
 
-fn clear(row: &mut [Frac], turned: &[Frac], place: usize, pivot: Frac) -> Result<(), Wide> {
+fn clear(row: &mut [Frac], divided: &[Frac], place: usize, pivot: Frac) -> Result<(), Wide> {
     let factor = row[place];
     if factor.num == 0 {
         return Ok(());
     }
-    for (col, (cell, by)) in row.iter_mut().zip(turned).enumerate() {
+    for (col, (cell, by)) in row.iter_mut().zip(divided).enumerate() {
         if by.num != 0 && col != place {
             *cell = minus(*cell, times(factor, *by).ok_or(Wide)?).ok_or(Wide)?;
         }

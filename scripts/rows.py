@@ -37,16 +37,16 @@ def most_bytes():
     code = read(READERS)
     sizes = {name: int(size.replace("_", "")) for name, size in re.findall(r"const (\w+): u64 = ([\d_]+);", code)}
     found = {}
-    for kinds, size in re.findall(r"((?:Reader::\w+(?: \| )?)+) => (\w+),", code):
+    for kinds, size in re.findall(r"((?:ReadAs::\w+(?: \| )?)+) => (\w+),", code):
         if size in sizes:
-            found.update({kind: sizes[size] for kind in re.findall(r"Reader::(\w+)", kinds)})
+            found.update({kind: sizes[size] for kind in re.findall(r"ReadAs::(\w+)", kinds)})
     return found
 
 
 def rows():
     """All rows, in the order of the help."""
     code = read(TABLE)
-    parts, pages = constants(TABLE, "Parts"), constants(TABLE, "PageParts")
+    parts, pages = constants(TABLE, "RowParts"), constants(TABLE, "PageParts")
     names = dict(re.findall(r"Usage::(\w+) => row_of\((\w+)\),", code))
     order = re.findall(r"Usage::(\w+),", re.search(r"(?s)const USAGES.*?\];", code)[0])
     files, settings, most = labels(READERS), labels(SETTINGS), most_bytes()
@@ -54,7 +54,7 @@ def rows():
         part, page = parts[names[usage]], pages[f"{names[usage]}_PAGE"]
         word, does, put_name = texts(part)
         put, prints, examples = texts(page)
-        reads = re.findall(r"Reader::(\w+)", part)
+        reads = re.findall(r"ReadAs::(\w+)", part)
         words = [Word(files[it].name, f"{files[it].text}, at most {most[it]} bytes") for it in reads]
         words += [Word(put_name, put)] if put_name else []
         words += [settings[it] for it in re.findall(r"Setting::(\w+)", part)]
