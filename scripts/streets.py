@@ -1,20 +1,28 @@
 #!/usr/bin/env python3
-"""Prints the description of a street that is drawn from a seed.
+"""Prints the description of a street that is drawn from a seed, or makes one with a certificate as deep as it has splits.
 
 usage: scripts/streets.py made SIGNALS SEED        2 to 24 signals: the street of docs/FORMATS.md, "The artery of a seed", which `maxband
                                                    make` has for at most 16; one of more is of version 2
        scripts/streets.py wide SIGNALS SEED        the same with speeds of each link and direction: the slowest of 30 to 50 km/h, and
                                                    5 to 20 more for the fastest, in tenths where the seed is even and else whole
        scripts/streets.py mixed SEED               2 to 11 signals and any of the keys of either version
+       scripts/streets.py deep FOLDER [SPLITS]     makes a folder with deep.toml and its certificate in both formats, deep-first.txt and
+                                                   deep-second.txt; SPLITS is 1 to 215282, and 200000 if it isn't given
 
 Numbers are drawn by the rule of docs/FORMATS.md. Of a wide street each link draws, after its length, its slowest outbound speed, what
 the fastest is more, and the same two inbound. Speeds of such streets have denominators that share little, so that numbers get wide.
+
+The deep street has two signals and a link with a block sum of 719 to 216001. Each split cuts off the greatest sum that is left, and its
+low part is split again. Every leaf adds up the two greens of the first signal, half a cycle each, so that `maxband check` answers
+`accepted open bound 1`.
 """
+import os
 import re
 import sys
 
 MOST_SIGNALS = 24
 MOST_OF_VERSION_1 = 16
+MOST_SPLITS = 215282
 
 
 class Draws:
@@ -42,7 +50,8 @@ def table(head, pairs):
 def street(version, artery, signals, links):
     """The text of a street of these tables, in which None is a key that is left out."""
     tables = [table("[artery]", artery), *[table("[[signal]]", it) for it in signals], *[table("[[link]]", it) for it in links]]
-    return "\n".join([f"version = {version}\n", *tables])
+    head = [] if version is None else [f"version = {version}\n"]
+    return "\n".join([*head, *tables])
 
 
 def version_of(signals):
@@ -145,17 +154,42 @@ def mixed(seed):
     return street(version, artery, tables, [mixed_link(number == signals - 2, draws) for number in range(signals - 1)])
 
 
+def deep_street():
+    signals = [{"name": f'"{name}"', "red": 50} for name in "AB"]
+    link = {"distance_out": 30000, "distance_in": 30000, "speed_out": pair('"1"', '"300"'), "speed_in": pair('"1"', '"300"')}
+    return street(None, {"units": '"metric"', "parts": 100, "cycle": pair('"1"', '"1"'), "ratio": 1}, signals, [link])
+
+
+def deep_certificate(splits, number, rows, leaf):
+    """The certificate in the format of this number: with the lines of its rows, if there are any, and those of each leaf."""
+    head = [f"maxband-certificate {number}", "verdict open", "bound 1", "no timing", *rows, "tree"]
+    return "\n".join([*head, *[f"split loop 1 {216000 - it}" for it in range(splits)], *leaf * (splits + 1), "end"]) + "\n"
+
+
+def make_deep(folder, splits=200000):
+    os.makedirs(folder, exist_ok=True)
+    first = deep_certificate(splits, 1, [], ["leaf 2", "wout 1 1", "win 1 1"])
+    second = deep_certificate(splits, 2, ["rows 2", "wout 1", "win 1"], ["leaf 1 2", "1 1", "2 1"])
+    for name, text in {"deep.toml": deep_street(), "deep-first.txt": first, "deep-second.txt": second}.items():
+        with open(os.path.join(folder, name), "w", encoding="utf-8") as file:
+            file.write(text)
+
+
 # What draws a street of each kind, and of how many numbers.
 KINDS = {"made": (made, 2), "wide": (wide, 2), "mixed": (mixed, 1)}
 
 
 def main(words):
-    draw, count = KINDS.get("".join(words[:1]), (None, 0))
-    numbers = [int(word) for word in words[1:] if re.fullmatch(r"\d{1,18}", word, re.ASCII)]
-    if draw is None or len(numbers) != count or len(words) != count + 1 or count == 2 and not 2 <= numbers[0] <= MOST_SIGNALS:
+    kind, *words = words or [""]
+    numbers = [int(word) for word in words[int(kind == "deep") :] if re.fullmatch(r"\d{1,18}", word, re.ASCII)]
+    draw, count = KINDS.get(kind, (None, 0))
+    if kind == "deep" and 1 <= len(words) <= 2 and len(numbers) == len(words) - 1 and all(1 <= it <= MOST_SPLITS for it in numbers):
+        make_deep(words[0], *numbers)
+    elif draw and len(numbers) == len(words) == count and (count == 1 or 2 <= numbers[0] <= MOST_SIGNALS):
+        print(draw(*numbers), end="")
+    else:
         print(__doc__.strip(), file=sys.stderr)
         return 2
-    print(draw(*numbers), end="")
     return 0
 
 

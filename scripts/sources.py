@@ -1,4 +1,6 @@
-"""Reads the sources of all crates into definitions with the names that each of them uses. `believe` and `unused` go by it."""
+"""Reads the sources of all crates into definitions with the names that each of them uses, and into the rows of the commands. `believe` and
+`unused` go by the definitions; of the rows `pages` makes tables, and `try-docs` runs their examples."""
+import collections
 import glob
 import os
 import re
@@ -18,6 +20,25 @@ OUTSIDE = ("use ", "pub use ", "infix", "open ", "syntax", "pub mod ", "mod ")
 CALLS = {"maxband_run": ("run", "maxband_main")}
 # Files in which the goals of one function are answered, by names that the kit makes.
 ANSWERS = {"Answers", "Invariants", "Proof"}
+
+# Where the rows of the commands stand, and what their words and files are.
+TABLE, SETTINGS, READERS = (f"{CRATES}/{it}" for it in ("run_commands/src/table.rt", "run_commands/src/settings.rt", "run_inputs/src/reader.rt"))
+Word = collections.namedtuple("Word", "name text")
+# `words` has a Word for each word behind the command's, in their order; `prints` and `examples` are lines.
+Row = collections.namedtuple("Row", "word usage does words puts prints examples")
+TEXT = r'"((?:[^"\\]|\\.)*)"'
+
+
+def read(path):
+    """The text of a file, named from the top or by its whole path."""
+    with open(os.path.join(TOP, path), encoding="utf-8") as file:
+        return file.read()
+
+
+def needs():
+    """The crates in the order of crates.txt, each with those that it names there."""
+    lines = [line.split("#")[0].partition(":") for line in read("crates.txt").split("\n")]
+    return {name.split()[0]: below.split() for name, _, below in lines if name.strip()}
 
 
 def imports(line):
@@ -122,7 +143,7 @@ class Book:
         crate, _, rest = os.path.relpath(path, CRATES).partition(f"/{folder}/")
         module = f"Rattle.{crate}.{folder}." + os.path.splitext(rest)[0].replace("/", ".")
         file = self.files[module] = File(module, path)
-        lines = open(path, encoding="utf-8").read().split("\n")
+        lines = read(path).split("\n")
         for line in lines:
             file.note_import(line)
         said = []
@@ -197,7 +218,7 @@ class Book:
 
     def read_types(self, path):
         crate, _, rest = os.path.relpath(path, CRATES).partition("/src/")
-        text = open(path, encoding="utf-8").read()
+        text = read(path)
         source = f"Rattle.{crate}.src." + os.path.splitext(rest)[0].replace("/", ".")
         file = self.files[source] = File(source, path)
         for line in text.split("\n"):
@@ -307,3 +328,49 @@ class Book:
 
     def used_by(self, definition, missing=None):
         return self.named_in(definition.module, definition.around + "\n" + definition.text, missing)
+
+
+# ---- the rows of the commands
+def texts(code):
+    return [it.replace('\\"', '"').replace("\\\\", "\\") for it in re.findall(TEXT, code)]
+
+
+def constants(path, kind):
+    """The constants of this type: name to code."""
+    return dict(re.findall(rf"(?ms)^(?:pub )?const (\w+): {kind} = \((.*?)\);\n", read(path)))
+
+
+def labels(path):
+    """What stands for each kind of word, by the variant of its enumeration."""
+    words = {name: Word(*texts(code)) for name, code in constants(path, "Label").items()}
+    return {variant: words[name] for variant, name in re.findall(r"\w+::(\w+) => (\w+),", read(path)) if name in words}
+
+
+def most_bytes():
+    """The most bytes of each kind of file."""
+    code = read(READERS)
+    sizes = {name: int(size.replace("_", "")) for name, size in re.findall(r"const (\w+): u64 = ([\d_]+);", code)}
+    found = {}
+    for kinds, size in re.findall(r"((?:ReadAs::\w+(?: \| )?)+) => (\w+),", code):
+        if size in sizes:
+            found.update({kind: sizes[size] for kind in re.findall(r"ReadAs::(\w+)", kinds)})
+    return found
+
+
+def command_rows():
+    """All rows, in the order of the help."""
+    code = read(TABLE)
+    parts, pages = constants(TABLE, "RowParts"), constants(TABLE, "PageParts")
+    names = dict(re.findall(r"Usage::(\w+) => row_of\((\w+)\),", code))
+    order = re.findall(r"Usage::(\w+),", re.search(r"(?s)const USAGES.*?\];", code)[0])
+    files, settings, most = labels(READERS), labels(SETTINGS), most_bytes()
+    for usage in order:
+        part, page = parts[names[usage]], pages[f"{names[usage]}_PAGE"]
+        word, does, put_name = texts(part)
+        put, prints, examples = texts(page)
+        reads = re.findall(r"ReadAs::(\w+)", part)
+        words = [Word(files[it].name, f"{files[it].text}, at most {most[it]} bytes") for it in reads]
+        words += [Word(put_name, put)] if put_name else []
+        words += [settings[it] for it in re.findall(r"Setting::(\w+)", part)]
+        asked = " ".join(["maxband", word, *[it.name for it in words]])
+        yield Row(word, asked, does, words, put_name, prints.splitlines(), examples.splitlines())
