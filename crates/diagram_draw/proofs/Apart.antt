@@ -7,7 +7,7 @@ use Rattle.std.proofs.Math.Nat.{mul-le-mul_right}
 use Rattle.std.proofs.lemmas.Nat.{div-add-mod'}
 use Rattle.progression.specs.Street.{Street, count, red_parts, HasSignal}
 use Rattle.progression.specs.TimingRecord.{TimingRecord, base, band}
-use Rattle.progression.specs.BaseRecord.{cycle, common_red}
+use Rattle.progression.specs.BaseRecord.{BaseRecord, cycle, common_red}
 use Rattle.progression.specs.Green.{BandIsGreen, mod_ℤ, red_start, red_ticks}
 use Rattle.progression.specs.Lines.{line_at, IsGreenWay}
 use Rattle.progression.specs.declared.parts.Dir.{Dir}
@@ -93,10 +93,10 @@ gap_there a t d i v u h g =
     gap_from_green (cycle a (base t)) (red_ticks a (base t) d i) (red_start a (base t) d i) (line_at a t d i) (band t d) least most (green_there a t d i h g)
 
 -- a red has some tick
-pub red_some : (a : Street) (t : TimingRecord) (d : Dir) (i : ℕ) → IsValid a → 2 ≤ t.unit → HasSignal a i → 1 ≤ red_ticks a (base t) d i
-red_some a t d i v u h =
+pub red_some : (a : Street) (b : BaseRecord) (d : Dir) (i : ℕ) → IsValid a → 2 ≤ b.unit → HasSignal a i → 1 ≤ red_ticks a b d i
+red_some a b d i v u h =
     let r = red_bounds a v d i (let p = h.0 in let q = h.1 in omega (arith, p, q)) in
-    let some : 1 * 2 ≤ red_parts a d i * t.unit = mul-le r.0 u in
+    let some : 1 * 2 ≤ red_parts a d i * b.unit = mul-le r.0 u in
     omega (arith, some)
 
 -- moments that are apart stand apart
@@ -109,9 +109,9 @@ pub bands_miss_reds : BandsMissReds
 bands_miss_reds f a t d i m n h e v u s g =
     let gap = gap_there a t d i v u s g in
     let some : 0 < cycle a (base t) = let l = h.cycle_least in omega (arith, l, e) in
-    let moments : ((later f (first_window f a t d i) m +ℤ pos (band t d)) ≤ℤ later f (first_red f a t d i) n)
-    ⊎ ((later f (first_red f a t d i) n +ℤ pos (red_ticks a (base t) d i)) ≤ℤ later f (first_window f a t d i) m)
+    let moments : ((later f (first_window f a t d i) m +ℤ pos (band t d)) ≤ℤ later f (first_red f a (base t) d i) n)
+    ⊎ ((later f (first_red f a (base t) d i) n +ℤ pos (red_ticks a (base t) d i)) ≤ℤ later f (first_window f a t d i) m)
     = rw e (moments_apart (cycle a (base t)) (red_ticks a (base t) d i) (band t d) (red_start a (base t) d i) (line_at a t d i) (common_red (base t) 1) some gap m n) in
     record {
-      apart = apart_drawn f (later f (first_window f a t d i) m) (later f (first_red f a t d i) n) (red_ticks a (base t) d i) (band t d) h moments;
+      apart = apart_drawn f (later f (first_window f a t d i) m) (later f (first_red f a (base t) d i) n) (red_ticks a (base t) d i) (band t d) h moments;
     }

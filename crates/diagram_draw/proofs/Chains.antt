@@ -1,5 +1,5 @@
 -- What a list becomes that is made by extensions, each by what it means, and what a loop makes of it.
-use Rattle.std.proofs.Common.{◌≡◌, ℕ, ◌+◌, ◌-◌, ◌≤◌, List, [], ◌∷◌, ◌++◌, map, flat_map, append_assoc, append-nil, sym, ap, ◌∙◌, arith}
+use Rattle.std.proofs.Common.{◌≡◌, ℕ, ◌+◌, ◌-◌, ◌≤◌, List, [], ◌∷◌, ◌++◌, map, flat_map, append-nil, sym, ap, ◌∙◌, arith}
 use Rattle.std.specs.List.{range_with_len}
 use Rattle.timing_measures.proofs.Pieces.{extended, extended_one, range_on, piece_up, map_up, text_on, text_up, texts_up}
 use Rattle.quantity_text.proofs.Pushed.{one_more, six_pushed, three_pushed, two_pushed}

@@ -7,7 +7,7 @@ use Rattle.std.proofs.lemmas.Bool.{cases_lt}
 use Rattle.std.proofs.lemmas.Bool.Decides.{eqb_tells}
 use Rattle.std.proofs.lemmas.List.Elements.{Contains-append_left, Contains-append_right, Contains-append_cases}
 use Rattle.progression.specs.Street.{Street, count, left_against, HasSignal, HasLink}
-use Rattle.progression.specs.TimingRecord.{TimingRecord}
+use Rattle.progression.specs.TimingRecord.{TimingRecord, base}
 use Rattle.progression.specs.declared.parts.Dir.{Dir}
 use Rattle.progression.specs.declared.parts.Dir.TheVariants.{Outbound, Inbound}
 use Rattle.diagram_draw.specs.declared.shape.Shape.{Shape}
@@ -160,15 +160,15 @@ module _ (f : Frame) (a : Street) (t : TimingRecord) (s : Shape) where
 
   -- ---- from the list to what it shows
   in_bar : (d : Dir) (i : ℕ) → HasSignal a i → Contains (bar f a t d i) s → IsFieldShape f a t s
-  in_bar d i here h = elim (in_cons (ground f a d i) (windows f a t d i ++ (common_reds f a t d i ++ turn_reds f a t d i)) s h) [
+  in_bar d i here h = elim (in_cons (ground f a d i) (windows f a t d i ++ (common_reds f a (base t) d i ++ turn_reds f a (base t) d i)) s h) [
     | inl p ↦ Ground d i here p
-    | inr p ↦ elim (Contains-append_cases (windows f a t d i) (common_reds f a t d i ++ turn_reds f a t d i) s p) [
+    | inr p ↦ elim (Contains-append_cases (windows f a t d i) (common_reds f a (base t) d i ++ turn_reds f a (base t) d i) s p) [
       | inl q ↦ (let there = in_if (has_band a t d) (blocks f (window_part f a t d i)) s q in
           Window d i here (there.0, in_blocks f (window_part f a t d i) s there.1))
-      | inr q ↦ elim (Contains-append_cases (common_reds f a t d i) (turn_reds f a t d i) s q) [
-        | inl r ↦ Red d i here (inl (in_blocks f (common_part f a t d i) s r))
-        | inr r ↦ (let some = in_some (left_against a d i) (blocks f (turn_part f a t d i)) s r in
-            Red d i here (inr (some.0, in_blocks f (turn_part f a t d i) s some.1)))
+      | inr q ↦ elim (Contains-append_cases (common_reds f a (base t) d i) (turn_reds f a (base t) d i) s q) [
+        | inl r ↦ Red d i here (inl (in_blocks f (common_part f a (base t) d i) s r))
+        | inr r ↦ (let some = in_some (left_against a d i) (blocks f (turn_part f a (base t) d i)) s r in
+            Red d i here (inr (some.0, in_blocks f (turn_part f a (base t) d i) s some.1)))
       ]
     ]
   ]
@@ -196,14 +196,14 @@ module _ (f : Frame) (a : Street) (t : TimingRecord) (s : Shape) where
       ]
 
   -- ---- and back
-  red_in : (d : Dir) (i : ℕ) → IsRed f a t d i s → Contains (common_reds f a t d i ++ turn_reds f a t d i) s
+  red_in : (d : Dir) (i : ℕ) → IsRed f a (base t) d i s → Contains (common_reds f a (base t) d i ++ turn_reds f a (base t) d i) s
   red_in d i (inl h) =
-      Contains-append_left (common_reds f a t d i) (turn_reds f a t d i) s
-      (blocks_in f (common_part f a t d i) s h)
+      Contains-append_left (common_reds f a (base t) d i) (turn_reds f a (base t) d i) s
+      (blocks_in f (common_part f a (base t) d i) s h)
   red_in d i (inr h) =
-      Contains-append_right (common_reds f a t d i) (turn_reds f a t d i) s
+      Contains-append_right (common_reds f a (base t) d i) (turn_reds f a (base t) d i) s
       (some_in (left_against a d i) _ s h.0
-      (blocks_in f (turn_part f a t d i) s h.1))
+      (blocks_in f (turn_part f a (base t) d i) s h.1))
 
   signal_in : (d : Dir) (i : ℕ) → Contains (bar f a t d i) s → Contains (signal_bars f a t i) s
   signal_in Outbound i h = Contains-append_left (bar f a t Outbound i) (bar f a t Inbound i) s h
@@ -221,14 +221,14 @@ module _ (f : Frame) (a : Street) (t : TimingRecord) (s : Shape) where
       let some = there.0 in
       let last = there.1 in
       inl (pieces_in (link_pieces f a t) 1 (count a - 1) l s some (omega (arith, some, last)) (piece_in d l h))
-  shape_in (Ground d i here h) = inr (bar_in d i here (cons_in (ground f a d i) (windows f a t d i ++ (common_reds f a t d i ++ turn_reds f a t d i)) s (inl h)))
+  shape_in (Ground d i here h) = inr (bar_in d i here (cons_in (ground f a d i) (windows f a t d i ++ (common_reds f a (base t) d i ++ turn_reds f a (base t) d i)) s (inl h)))
   shape_in (Window d i here h) =
-      inr (bar_in d i here (cons_in (ground f a d i) (windows f a t d i ++ (common_reds f a t d i ++ turn_reds f a t d i)) s
-      (inr (Contains-append_left (windows f a t d i) (common_reds f a t d i ++ turn_reds f a t d i) s
+      inr (bar_in d i here (cons_in (ground f a d i) (windows f a t d i ++ (common_reds f a (base t) d i ++ turn_reds f a (base t) d i)) s
+      (inr (Contains-append_left (windows f a t d i) (common_reds f a (base t) d i ++ turn_reds f a (base t) d i) s
       (if_in (has_band a t d) (blocks f (window_part f a t d i)) s h.0 (blocks_in f (window_part f a t d i) s h.1))))))
   shape_in (Red d i here h) =
-      inr (bar_in d i here (cons_in (ground f a d i) (windows f a t d i ++ (common_reds f a t d i ++ turn_reds f a t d i)) s
-      (inr (Contains-append_right (windows f a t d i) (common_reds f a t d i ++ turn_reds f a t d i) s (red_in d i h)))))
+      inr (bar_in d i here (cons_in (ground f a d i) (windows f a t d i ++ (common_reds f a (base t) d i ++ turn_reds f a (base t) d i)) s
+      (inr (Contains-append_right (windows f a t d i) (common_reds f a (base t) d i ++ turn_reds f a (base t) d i) s (red_in d i h)))))
 
   field_one : Contains (field_shapes f a t) s → IsFieldShape f a t s
   unfolding field_shapes
@@ -258,7 +258,7 @@ plain_red false Inbound x y z w from to = refl
 piece_not_red : (f : Frame) (part : BandPart) → is_red (piece f part) ≡ false
 piece_not_red f part = plain_red (is_narrow f part.band) part.dir _ _ _ _ _ _
 
-the_red : (f : Frame) (a : Street) (t : TimingRecord) (s : Shape) → IsFieldShape f a t s → is_red s ≡ true → (d : Dir) × (i : ℕ) × HasSignal a i × IsRed f a t d i s
+the_red : (f : Frame) (a : Street) (t : TimingRecord) (s : Shape) → IsFieldShape f a t s → is_red s ≡ true → (d : Dir) × (i : ℕ) × HasSignal a i × IsRed f a (base t) d i s
 the_red f a t s (Piece d l there h) r = absurd (not_both s (ap is_red h.is ∙ piece_not_red f h.part) r)
 the_red f a t s (Ground d i here h) r = absurd (not_both s (ap is_red h) r)
 the_red f a t s (Window Outbound i here h) r = absurd (not_both s (ap is_red h.1.is) r)

@@ -1,28 +1,26 @@
 -- A band leaves and enters a link exactly where the pieces that are drawn do.
-use Rattle.std.proofs.Common.{◌≡◌, ℕ, suc, ℤ, pos, negsuc, ◌+ℤ◌, ◌-ℤ◌, ◌*ℤ◌, ◌≤ℤ◌, ◌+◌, ◌-◌, ◌*◌, ◌/◌, ◌<◌, ◌≤◌, Bool, true, false, not, ◌&&◌, nat_le}
+use Rattle.std.proofs.Common.{◌≡◌, ℕ, suc, ℤ, pos, negsuc, ◌+ℤ◌, ◌-ℤ◌, ◌*ℤ◌, ◌≤ℤ◌, ◌+◌, ◌*◌, ◌/◌, ◌<◌, ◌≤◌, Bool, true, false, not, nat_le}
 use Rattle.std.proofs.Common.{IsTrue, true≢false, refl, sym, ap, subst, ◌∙◌, arith, inl, inr, mul-pos}
-use Rattle.std.specs.Prelude.{◌<ℤ◌, ◌⊎◌, ◌↔◌, int_le, int_lt}
+use Rattle.std.specs.Prelude.{◌<ℤ◌, ◌⊎◌, int_le, int_lt}
 use Rattle.std.proofs.lemmas.Int.{ints}
 use Rattle.std.proofs.lemmas.Bool.{cases_lt, leb-true, le-leb}
 use Rattle.std.proofs.Math.Nat.{mul-div_cancel}
-use Rattle.progression.specs.Street.{Street, count, HasLink}
+use Rattle.progression.specs.Street.{Street}
 use Rattle.progression.specs.TimingRecord.{TimingRecord, base, band}
 use Rattle.progression.specs.BaseRecord.{cycle, run, common_red}
-use Rattle.progression.specs.Green.{mod_ℤ, red_start, red_ticks}
-use Rattle.progression.specs.Lines.{line_at, IsGreenWay}
+use Rattle.progression.specs.Green.{mod_ℤ, red_ticks}
+use Rattle.progression.specs.Lines.{line_at}
 use Rattle.progression.specs.declared.parts.Dir.{Dir}
 use Rattle.progression.proofs.Remainders.{quot_ℤ, split_ℤ, mod_below, mod_unique}
-use Rattle.artery_model.specs.Valid.{IsValid}
 use Rattle.time_space.proofs.Scale.{minus_scale}
 use Rattle.time_space.proofs.FinerGrids.{plus_scale, mul-le}
 use Rattle.diagram_draw.specs.declared.frame.Frame.{Frame}
 use Rattle.diagram_draw.specs.declared.bands.BandPart.{BandPart}
 use Rattle.diagram_draw.specs.declared.bands.Edge.{Edge}
 use Rattle.diagram_draw.specs.declared.bands.Edge.TheVariants.{Leaving, Entering}
-use Rattle.diagram_draw.specs.Frames.{IsFrame}
 use Rattle.diagram_draw.specs.Bands.{tail, is_seen, is_chosen, band_in_cycle, band_part}
 use Rattle.diagram_draw.specs.Members.{IsDrawnPart}
-use Rattle.diagram_draw.specs.Laws.{IsWithin, is_passing, IsBandShown, BandsAreShown, PiecesAreSeen, PiecesAreOnce}
+use Rattle.diagram_draw.specs.Laws.{IsWithin, IsBandShown, BandsAreShown, PiecesAreSeen, PiecesAreOnce}
 use Rattle.diagram_draw.proofs.Apart.{gap_there, red_some}
 use Rattle.timing_words.proofs.GreenWays.{both_true, true_both}
 
@@ -253,7 +251,7 @@ bands_are_shown f a t d l n h e v u there g w =
     let gap = gap_there a t d l v u (here, omega (arith, last)) g in
     let within = gap.within in
     let free = gap.free in
-    let least : 1 ≤ red_ticks a (base t) d l = red_some a t d l v u (here, omega (arith, last)) in
+    let least : 1 ≤ red_ticks a (base t) d l = red_some a (base t) d l v u (here, omega (arith, last)) in
     band_shown f a t d l e some (omega (arith, e, within, free, least)) n w
 
 -- ---- each is seen

@@ -3,7 +3,6 @@ use Rattle.std.proofs.Common.{◌≡◌, ℕ, ℤ, pos, ◌+ℤ◌, ◌-ℤ◌, 
 use Rattle.std.specs.Prelude.{◌⊎◌}
 use Rattle.std.proofs.lemmas.Int.{ints}
 use Rattle.progression.specs.BaseRecord.{pattern_of, common_red}
-use Rattle.progression.specs.TimingRecord.{base}
 use Rattle.progression.specs.Green.{is_early}
 use Rattle.diagram_draw.specs.Bars.{common_ticks, turn_ticks, common_wait}
 use Rattle.diagram_draw.specs.Laws.{RedsHaveTwoParts}
@@ -19,8 +18,8 @@ two_orders true x y = inr (refl, refl)
 two_orders false x y = inl (refl, refl)
 
 pub red_parts_are : RedsHaveTwoParts
-red_parts_are a t d i = record {
-  begun = there (common_red (base t) i) (common_wait a t d i);
-  whole = sum_times _ _ t.unit;
-  order = two_orders (is_early d (pattern_of (base t) i)) (common_ticks a t i) (turn_ticks a t d i);
+red_parts_are a b d i = record {
+  begun = there (common_red b i) (common_wait a b d i);
+  whole = sum_times _ _ b.unit;
+  order = two_orders (is_early d (pattern_of b i)) (common_ticks a b i) (turn_ticks a b d i);
 }

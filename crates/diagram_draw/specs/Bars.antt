@@ -4,7 +4,7 @@ use Rattle.std.specs.Prelude.{ℕ, ◌+◌, ◌*◌, ◌==◌, if◌then◌else�
 use Rattle.std.specs.List.{flat_map, range_with_len}
 use Rattle.progression.specs.Street.{Street, count, signal_of, left_against}
 use Rattle.progression.specs.TimingRecord.{TimingRecord, base, band}
-use Rattle.progression.specs.BaseRecord.{pattern_of}
+use Rattle.progression.specs.BaseRecord.{BaseRecord, pattern_of}
 use Rattle.progression.specs.Green.{is_early, red_start}
 use Rattle.progression.specs.Lines.{line_at}
 use Rattle.progression.specs.declared.parts.Dir.{Dir}
@@ -43,25 +43,25 @@ blocks f part = some_blocks f part (f.cycles + 1)
 
 -- ---- what they show
 -- where the direction's red and its band begin in the cycle before the first
-abbrev pub first_red : Frame → Street → TimingRecord → Dir → ℕ → ℤ
-first_red f a t d i = earlier f 1 (after_start a (base t) (red_start a (base t) d i))
+abbrev pub first_red : Frame → Street → BaseRecord → Dir → ℕ → ℤ
+first_red f a b d i = earlier f 1 (after_start a b (red_start a b d i))
 
 abbrev pub first_window : Frame → Street → TimingRecord → Dir → ℕ → ℤ
 first_window f a t d i = earlier f 1 (after_start a (base t) (line_at a t d i))
 
 -- the two parts of a direction's red, in ticks
-abbrev pub common_ticks : Street → TimingRecord → ℕ → ℕ
-common_ticks a t i = (signal_of a i).red * t.unit
+abbrev pub common_ticks : Street → BaseRecord → ℕ → ℕ
+common_ticks a b i = (signal_of a i).red * b.unit
 
-abbrev pub turn_ticks : Street → TimingRecord → Dir → ℕ → ℕ
-turn_ticks a t d i = left_against a d i * t.unit
+abbrev pub turn_ticks : Street → BaseRecord → Dir → ℕ → ℕ
+turn_ticks a b d i = left_against a d i * b.unit
 
 -- how long after the start of the direction's red each of them begins: the left turn that lags comes first
-abbrev pub common_wait : Street → TimingRecord → Dir → ℕ → ℕ
-common_wait a t d i = if is_early d (pattern_of (base t) i) then turn_ticks a t d i else 0
+abbrev pub common_wait : Street → BaseRecord → Dir → ℕ → ℕ
+common_wait a b d i = if is_early d (pattern_of b i) then turn_ticks a b d i else 0
 
-abbrev pub turn_wait : Street → TimingRecord → Dir → ℕ → ℕ
-turn_wait a t d i = if is_early d (pattern_of (base t) i) then 0 else common_ticks a t i
+abbrev pub turn_wait : Street → BaseRecord → Dir → ℕ → ℕ
+turn_wait a b d i = if is_early d (pattern_of b i) then 0 else common_ticks a b i
 
 abbrev pub window_paint : Dir → Paint
 window_paint Outbound = paint.OutWindow
@@ -71,20 +71,20 @@ window_paint Inbound = paint.InWindow
 abbrev pub window_part : Frame → Street → TimingRecord → Dir → ℕ → BarPart
 window_part f a t d i = record { paint = window_paint d; top = bar_top f a d i; begin = first_window f a t d i; ticks = band t d }
 
-abbrev pub common_part : Frame → Street → TimingRecord → Dir → ℕ → BarPart
-common_part f a t d i = record {
+abbrev pub common_part : Frame → Street → BaseRecord → Dir → ℕ → BarPart
+common_part f a b d i = record {
   paint = paint.CommonRed;
   top = bar_top f a d i;
-  begin = first_red f a t d i +ℤ pos (common_wait a t d i);
-  ticks = common_ticks a t i;
+  begin = first_red f a b d i +ℤ pos (common_wait a b d i);
+  ticks = common_ticks a b i;
 }
 
-abbrev pub turn_part : Frame → Street → TimingRecord → Dir → ℕ → BarPart
-turn_part f a t d i = record {
+abbrev pub turn_part : Frame → Street → BaseRecord → Dir → ℕ → BarPart
+turn_part f a b d i = record {
   paint = paint.TurnRed;
   top = bar_top f a d i;
-  begin = first_red f a t d i +ℤ pos (turn_wait a t d i);
-  ticks = turn_ticks a t d i;
+  begin = first_red f a b d i +ℤ pos (turn_wait a b d i);
+  ticks = turn_ticks a b d i;
 }
 
 -- ---- a bar
@@ -95,15 +95,15 @@ ground f a d i = shape.Rect paint.Ground (pos f.left) (bar_top f a d i) (pos (pl
 abbrev pub windows : Frame → Street → TimingRecord → Dir → ℕ → List Shape
 windows f a t d i = if has_band a t d then blocks f (window_part f a t d i) else []
 
-abbrev pub common_reds : Frame → Street → TimingRecord → Dir → ℕ → List Shape
-common_reds f a t d i = blocks f (common_part f a t d i)
+abbrev pub common_reds : Frame → Street → BaseRecord → Dir → ℕ → List Shape
+common_reds f a b d i = blocks f (common_part f a b d i)
 
 -- none where no left turn is against the direction
-abbrev pub turn_reds : Frame → Street → TimingRecord → Dir → ℕ → List Shape
-turn_reds f a t d i = if left_against a d i == 0 then [] else blocks f (turn_part f a t d i)
+abbrev pub turn_reds : Frame → Street → BaseRecord → Dir → ℕ → List Shape
+turn_reds f a b d i = if left_against a d i == 0 then [] else blocks f (turn_part f a b d i)
 
 abbrev pub bar : Frame → Street → TimingRecord → Dir → ℕ → List Shape
-bar f a t d i = ground f a d i ∷ (windows f a t d i ++ (common_reds f a t d i ++ turn_reds f a t d i))
+bar f a t d i = ground f a d i ∷ (windows f a t d i ++ (common_reds f a (base t) d i ++ turn_reds f a (base t) d i))
 
 abbrev pub signal_bars : Frame → Street → TimingRecord → ℕ → List Shape
 signal_bars f a t i = bar f a t Outbound i ++ bar f a t Inbound i

@@ -3,12 +3,12 @@
 use Rattle.std.specs.Prelude.{ℕ, zero, suc, ◌+◌, ◌-◌, ◌*◌, ◌/◌, ◌%◌, ◌==◌, ◌&&◌, nat_le, if◌then◌else◌, Bool, ℤ, pos, List, [], ◌∷◌, ◌++◌, map, codes, Option, None, Some}
 use Rattle.std.specs.List.{flat_map, range_with_len}
 use Rattle.std.specs.Fmt.{decimal}
-use Rattle.rational_theory.specs.Rational.{ℚ, over}
+use Rattle.rational_theory.specs.Rational.{ℚ}
 use Rattle.progression.specs.Best.{weighted_band}
 use Rattle.progression.specs.Green.{is_early}
 use Rattle.progression.specs.Street.{Street, count, signal_of, left_against, clearance, distance}
 use Rattle.progression.specs.TimingRecord.{TimingRecord, base, band}
-use Rattle.progression.specs.BaseRecord.{cycle, run, pattern_of}
+use Rattle.progression.specs.BaseRecord.{BaseRecord, run, pattern_of}
 use Rattle.progression.specs.declared.parts.Units.{Units}
 use Rattle.progression.specs.declared.parts.Units.TheVariants.{Metric, English}
 use Rattle.progression.specs.declared.parts.Dir.{Dir}
@@ -46,11 +46,11 @@ abbrev pub hundredths : ℚ → List ℕ
 hundredths x = hundredths_text (nearest x 2)
 
 -- a width in seconds: what is less than a second, to hundredths
-abbrev pub width_text : TimingRecord → ℕ → List ℕ
-width_text t ticks = if nat_le t.grid ticks then seconds_text (base t) ticks else hundredths (seconds (base t) ticks)
+abbrev pub width_text : BaseRecord → ℕ → List ℕ
+width_text b ticks = if nat_le b.grid ticks then seconds_text b ticks else hundredths (seconds b ticks)
 
-abbrev pub offset_text : Street → TimingRecord → ℕ → List ℕ
-offset_text a t i = moment_text a (base t) (offset a (base t) i)
+abbrev pub offset_text : Street → BaseRecord → ℕ → List ℕ
+offset_text a b i = moment_text a b (offset a b i)
 
 -- ---- above the field
 -- the name of the street, or what the drawing is
@@ -68,13 +68,13 @@ title_text a title = escaped (name_of a.head.name) ++ after_name title
 
 -- `&#183;` is a point in the middle
 unfoldable pub width_facts : Street → TimingRecord → Dir → List ℕ
-width_facts a t d = codes " band " ++ (width_text t (band t d) ++ (codes " s = " ++ (percent_text a t d ++ codes " % of the cycle")))
+width_facts a t d = codes " band " ++ (width_text (base t) (band t d) ++ (codes " s = " ++ (percent_text a t d ++ codes " % of the cycle")))
 
 unfoldable pub band_facts : Street → TimingRecord → Dir → List ℕ
 band_facts a t d = if has_band a t d then codes " &#183; " ++ (dir_word d ++ width_facts a t d) else codes " &#183; no " ++ (dir_word d ++ codes " band")
 
-unfoldable pub cycle_facts : Street → TimingRecord → List ℕ
-cycle_facts a t = codes "cycle " ++ (tenths (cycle_seconds a (base t)) ++ codes " s")
+unfoldable pub cycle_facts : Street → BaseRecord → List ℕ
+cycle_facts a b = codes "cycle " ++ (tenths (cycle_seconds a b) ++ codes " s")
 
 -- the weighted band, where both directions have a band
 unfoldable pub weighted_facts : Street → TimingRecord → List ℕ
@@ -82,7 +82,7 @@ weighted_facts a t = if has_band a t Outbound && has_band a t Inbound then codes
 
 -- the cycle and the bands
 unfoldable pub facts_text : Street → TimingRecord → List ℕ
-facts_text a t = cycle_facts a t ++ (band_facts a t Outbound ++ (band_facts a t Inbound ++ weighted_facts a t))
+facts_text a t = cycle_facts a (base t) ++ (band_facts a t Outbound ++ (band_facts a t Inbound ++ weighted_facts a t))
 
 -- ---- the head
 -- how wide the head may be
@@ -162,11 +162,11 @@ cycle_number f m = caption letter.HeadMiddle (x_at f (pos (m * f.cycle))) head_l
 abbrev pub cycle_numbers : Frame → List Caption
 cycle_numbers f = map (cycle_number f) (range_with_len 1 f.cycles)
 
-abbrev pub second_number : Frame → TimingRecord → ℕ → Caption
-second_number f t k = caption letter.Axis (x_at f (pos (second_at f t k * t.grid))) (pos (plot_bottom f + 210)) (decimal (second_at f t k))
+abbrev pub second_number : Frame → BaseRecord → ℕ → Caption
+second_number f b k = caption letter.Axis (x_at f (pos (second_at f b k * b.grid))) (pos (plot_bottom f + 210)) (decimal (second_at f b k))
 
-abbrev pub second_numbers : Frame → TimingRecord → List Caption
-second_numbers f t = map (second_number f t) (range_with_len 0 (steps_shown f t))
+abbrev pub second_numbers : Frame → BaseRecord → List Caption
+second_numbers f b = map (second_number f b) (range_with_len 0 (steps_shown f b))
 
 -- ---- the signals
 abbrev pub row_level : Frame → Street → ℕ → ℤ
@@ -177,11 +177,11 @@ abbrev pub turn_word : ℕ → Bool → List ℕ
 turn_word turn early = if turn == 0 then codes "-" else if early then codes "lag" else codes "lead"
 
 -- the outbound left turn, which is against the inbound direction, and the inbound one
-abbrev pub turn_text : Street → TimingRecord → Dir → ℕ → List ℕ
-turn_text a t d i = turn_word (left_against a d i) (is_early d (pattern_of (base t) i))
+abbrev pub turn_text : Street → BaseRecord → Dir → ℕ → List ℕ
+turn_text a b d i = turn_word (left_against a d i) (is_early d (pattern_of b i))
 
-abbrev pub pattern_text : Street → TimingRecord → ℕ → List ℕ
-pattern_text a t i = if left_against a Outbound i + left_against a Inbound i == 0 then codes "-" else turn_text a t Inbound i ++ (codes "/" ++ turn_text a t Outbound i)
+abbrev pub pattern_text : Street → BaseRecord → ℕ → List ℕ
+pattern_text a b i = if left_against a Outbound i + left_against a Inbound i == 0 then codes "-" else turn_text a b Inbound i ++ (codes "/" ++ turn_text a b Outbound i)
 
 abbrev pub name_caption : Frame → Street → ℕ → Sized
 name_caption f a i =
@@ -191,15 +191,15 @@ name_caption f a i =
 abbrev pub names : Frame → Street → List Sized
 names f a = map (name_caption f a) (range_with_len 1 (count a))
 
-unfoldable pub signal_row : Frame → Street → TimingRecord → ℕ → List Caption
-signal_row f a t i =
+unfoldable pub signal_row : Frame → Street → BaseRecord → ℕ → List Caption
+signal_row f a b i =
     caption letter.Number (pos 330) (row_level f a i) (decimal i)
-    ∷ caption letter.Number (pos (f.left - 760)) (row_level f a i) (pattern_text a t i)
-    ∷ caption letter.Number (pos (f.left - 170)) (row_level f a i) (offset_text a t i)
+    ∷ caption letter.Number (pos (f.left - 760)) (row_level f a i) (pattern_text a b i)
+    ∷ caption letter.Number (pos (f.left - 170)) (row_level f a i) (offset_text a b i)
     ∷ []
 
-abbrev pub signal_rows : Frame → Street → TimingRecord → List Caption
-signal_rows f a t = flat_map (signal_row f a t) (range_with_len 1 (count a))
+abbrev pub signal_rows : Frame → Street → BaseRecord → List Caption
+signal_rows f a b = flat_map (signal_row f a b) (range_with_len 1 (count a))
 
 -- ---- the links
 -- half way between its signals
@@ -211,23 +211,23 @@ abbrev pub lengths_text : Bool → ℕ → ℕ → List ℕ
 lengths_text both out back = if both then decimal out ++ (codes "/" ++ decimal back) else decimal out
 
 -- none where a run takes no time
-abbrev pub link_speed_text : Street → TimingRecord → Dir → ℕ → List ℕ
-link_speed_text a t d l = if run (base t) d l == 0 then codes "-" else tenths (link_speed a (base t) d l)
+abbrev pub link_speed_text : Street → BaseRecord → Dir → ℕ → List ℕ
+link_speed_text a b d l = if run b d l == 0 then codes "-" else tenths (link_speed a b d l)
 
-unfoldable pub link_row : Frame → Street → TimingRecord → ℕ → List Caption
-link_row f a t l =
+unfoldable pub link_row : Frame → Street → BaseRecord → ℕ → List Caption
+link_row f a b l =
     caption letter.Number (pos (plot_right f + 880)) (link_level f a l) (lengths_text (lengths_differ a) (distance a Outbound l) (distance a Inbound l))
-    ∷ caption letter.Number (pos (plot_right f + 1480)) (link_level f a l) (link_speed_text a t Outbound l)
-    ∷ caption letter.Number (pos (plot_right f + 2060)) (link_level f a l) (link_speed_text a t Inbound l)
+    ∷ caption letter.Number (pos (plot_right f + 1480)) (link_level f a l) (link_speed_text a b Outbound l)
+    ∷ caption letter.Number (pos (plot_right f + 2060)) (link_level f a l) (link_speed_text a b Inbound l)
     ∷ []
 
-abbrev pub link_rows : Frame → Street → TimingRecord → List Caption
-link_rows f a t = flat_map (link_row f a t) (range_with_len 1 (count a - 1))
+abbrev pub link_rows : Frame → Street → BaseRecord → List Caption
+link_rows f a b = flat_map (link_row f a b) (range_with_len 1 (count a - 1))
 
 -- ---- where a line steps
 -- the seconds beside the mark
 abbrev pub mark : Frame → Street → TimingRecord → Dir → ℕ → Caption
-mark f a t d i = caption letter.Mark (step_begin f a t d i) (mark_level f a d i) (seconds_text (base t) (step_ticks a t d i) ++ codes " s")
+mark f a t d i = caption letter.Mark (step_begin f a t d i) (mark_level f a d i) (seconds_text (base t) (step_ticks a (base t) d i) ++ codes " s")
 
 abbrev pub marks_at : Frame → Street → TimingRecord → Dir → ℕ → List Caption
 marks_at f a t d i = if has_step a t d i then mark f a t d i ∷ [] else []
@@ -282,11 +282,11 @@ notes f =
 unfoldable pub above : Frame → Street → List Caption
 above f a = signal_heads f ++ (link_heads f a ++ cycle_numbers f)
 
-unfoldable pub beside : Frame → Street → TimingRecord → List Caption
-beside f a t = signal_rows f a t ++ link_rows f a t
+unfoldable pub beside : Frame → Street → BaseRecord → List Caption
+beside f a b = signal_rows f a b ++ link_rows f a b
 
-unfoldable pub below : Frame → Street → TimingRecord → List Caption
-below f a t = second_numbers f t ++ (red_words f ++ (band_words f ++ (notes f ++ queue_notes f a)))
+unfoldable pub below : Frame → Street → BaseRecord → List Caption
+below f a b = second_numbers f b ++ (red_words f ++ (band_words f ++ (notes f ++ queue_notes f a)))
 
 unfoldable pub captions : Frame → Street → TimingRecord → List Caption
-captions f a t = above f a ++ (beside f a t ++ (marks f a t ++ below f a t))
+captions f a t = above f a ++ (beside f a (base t) ++ (marks f a t ++ below f a (base t)))

@@ -3,7 +3,7 @@ use Rattle.std.specs.Prelude.{ℕ, zero, suc, ◌+◌, ◌-◌, ◌*◌, ◌/◌
 use Rattle.std.specs.Int.{int_div_euclid}
 use Rattle.progression.specs.Street.{Street, count, signal_of, distance}
 use Rattle.progression.specs.TimingRecord.{TimingRecord, base, band}
-use Rattle.progression.specs.BaseRecord.{cycle, run}
+use Rattle.progression.specs.BaseRecord.{BaseRecord, cycle, run}
 use Rattle.progression.specs.declared.parts.Dir.{Dir}
 use Rattle.progression.specs.declared.parts.Dir.TheVariants.{Outbound, Inbound}
 use Rattle.diagram_draw.specs.declared.frame.Frame.{Frame}
@@ -27,13 +27,13 @@ both_bars = 180
 
 -- ---- the others
 -- how many ticks the runs of the first links take together
-abbrev pub trip : TimingRecord → Dir → ℕ → ℕ
-trip t d zero = 0
-trip t d (suc j) = trip t d j + run (base t) d (suc j)
+abbrev pub trip : BaseRecord → Dir → ℕ → ℕ
+trip b d zero = 0
+trip b d (suc j) = trip b d j + run b d (suc j)
 
 -- so many ticks at most lie between a band's first tick anywhere and its last
 abbrev pub reach : Street → TimingRecord → Dir → ℕ
-reach a t d = trip t d (count a - 1) + band t d
+reach a t d = trip (base t) d (count a - 1) + band t d
 
 abbrev pub longest_reach : Street → TimingRecord → ℕ
 longest_reach a t = max (reach a t Outbound) (reach a t Inbound)

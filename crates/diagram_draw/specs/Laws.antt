@@ -3,7 +3,7 @@
 use Rattle.std.specs.Prelude.{◌≡◌, ◌⊎◌, ◌↔◌, Contains, Option, List, ℕ, ◌+◌, ◌-◌, ◌*◌, ◌<◌, ◌≤◌, nat_le, ℤ, pos, ◌+ℤ◌, ◌≤ℤ◌, Bool, true, false, IsTrue}
 use Rattle.progression.specs.Street.{Street, count, HasSignal, HasLink, clearance}
 use Rattle.progression.specs.TimingRecord.{TimingRecord, base, band}
-use Rattle.progression.specs.BaseRecord.{cycle, run, common_red}
+use Rattle.progression.specs.BaseRecord.{BaseRecord, cycle, run, common_red}
 use Rattle.progression.specs.Green.{since, is_green, red_start, red_ticks}
 use Rattle.progression.specs.Lines.{line_at, IsGreenWay}
 use Rattle.progression.specs.declared.parts.Dir.{Dir}
@@ -27,19 +27,19 @@ PlacesAscend = (f : Frame) (early late : ℤ) → IsFrame f → early ≤ℤ lat
 
 -- ---- reds
 -- The two parts of a direction's red are the whole of it, one after the other, and one begins with the signal's common red.
-pub record AreRedParts (a : Street) (t : TimingRecord) (d : Dir) (i : ℕ) : Type 0 where
-  pub begun : red_start a (base t) d i +ℤ pos (common_wait a t d i) ≡ common_red (base t) i
-  pub whole : common_ticks a t i + turn_ticks a t d i ≡ red_ticks a (base t) d i
-  pub order : ((common_wait a t d i ≡ 0) × (turn_wait a t d i ≡ common_ticks a t i)) ⊎ ((turn_wait a t d i ≡ 0) × (common_wait a t d i ≡ turn_ticks a t d i))
+pub record AreRedParts (a : Street) (b : BaseRecord) (d : Dir) (i : ℕ) : Type 0 where
+  pub begun : red_start a b d i +ℤ pos (common_wait a b d i) ≡ common_red b i
+  pub whole : common_ticks a b i + turn_ticks a b d i ≡ red_ticks a b d i
+  pub order : ((common_wait a b d i ≡ 0) × (turn_wait a b d i ≡ common_ticks a b i)) ⊎ ((turn_wait a b d i ≡ 0) × (common_wait a b d i ≡ turn_ticks a b d i))
 
 abbrev pub RedsHaveTwoParts : Type 0
-RedsHaveTwoParts = (a : Street) (t : TimingRecord) (d : Dir) (i : ℕ) → AreRedParts a t d i
+RedsHaveTwoParts = (a : Street) (b : BaseRecord) (d : Dir) (i : ℕ) → AreRedParts a b d i
 
 -- ---- bands
 -- the red and the band of a direction at a signal, in any two cycles: one is over where the other begins, and so it is drawn
 pub record AreApart (f : Frame) (a : Street) (t : TimingRecord) (d : Dir) (i m n : ℕ) : Type 0 where
-  pub apart : (x_at f (later f (first_window f a t d i) m +ℤ pos (band t d)) ≤ℤ x_at f (later f (first_red f a t d i) n))
-      ⊎ (x_at f (later f (first_red f a t d i) n +ℤ pos (red_ticks a (base t) d i)) ≤ℤ x_at f (later f (first_window f a t d i) m))
+  pub apart : (x_at f (later f (first_window f a t d i) m +ℤ pos (band t d)) ≤ℤ x_at f (later f (first_red f a (base t) d i) n))
+      ⊎ (x_at f (later f (first_red f a (base t) d i) n +ℤ pos (red_ticks a (base t) d i)) ≤ℤ x_at f (later f (first_window f a t d i) m))
 
 abbrev pub BandsMissReds : Type 0
 BandsMissReds =
@@ -49,9 +49,9 @@ BandsMissReds =
 -- At a moment within the cycles that are shown a direction is red at a signal exactly where it is strictly inside one of the reds that are drawn.
 abbrev pub RedsAreShown : Type 0
 RedsAreShown =
-    (f : Frame) (a : Street) (t : TimingRecord) (d : Dir) (i n : ℕ) → IsFrame f → f.cycle ≡ cycle a (base t) → IsValid a → 2 ≤ t.unit → HasSignal a i → n < f.cycles * f.cycle
-    → (is_green (cycle a (base t)) (red_start a (base t) d i) (red_ticks a (base t) d i) (common_red (base t) 1 +ℤ pos n) ≡ false)
-    ↔ ((m : ℕ) × (m < f.cycles + 1) × IsInside (later f (first_red f a t d i) m) (red_ticks a (base t) d i) (pos n))
+    (f : Frame) (a : Street) (b : BaseRecord) (d : Dir) (i n : ℕ) → IsFrame f → f.cycle ≡ cycle a b → IsValid a → 2 ≤ b.unit → HasSignal a i → n < f.cycles * f.cycle
+    → (is_green (cycle a b) (red_start a b d i) (red_ticks a b d i) (common_red b 1 +ℤ pos n) ≡ false)
+    ↔ ((m : ℕ) × (m < f.cycles + 1) × IsInside (later f (first_red f a b d i) m) (red_ticks a b d i) (pos n))
 
 -- The band reaches the signal at the end of a link a run after it left the one at its start, and began there earlier by the time that the queue has to
 -- clear: so the piece of a link enters that long after the band at the signal where it enters begins.
@@ -129,4 +129,6 @@ FieldIsExact = (f : Frame) (a : Street) (t : TimingRecord) (title : Option (List
 
 -- and what is painted as a red there is one of the model
 abbrev pub RedsAreReds : Type 0
-RedsAreReds = (f : Frame) (a : Street) (t : TimingRecord) (title : Option (List ℕ)) (s : Shape) → Contains (drawn f a t title).field s → is_red s ≡ true → (d : Dir) × (i : ℕ) × HasSignal a i × IsRed f a t d i s
+RedsAreReds =
+    (f : Frame) (a : Street) (t : TimingRecord) (title : Option (List ℕ)) (s : Shape) → Contains (drawn f a t title).field s → is_red s ≡ true
+    → (d : Dir) × (i : ℕ) × HasSignal a i × IsRed f a (base t) d i s

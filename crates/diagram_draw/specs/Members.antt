@@ -1,7 +1,8 @@
 -- Which shapes are seen through the field of a drawing.
 use Rattle.std.specs.Prelude.{◌≡◌, ◌⊎◌, ℕ, ◌+◌, ◌<◌, ◌≤◌, Bool, true, false, IsTrue}
 use Rattle.progression.specs.Street.{Street, HasSignal, HasLink, left_against}
-use Rattle.progression.specs.TimingRecord.{TimingRecord}
+use Rattle.progression.specs.BaseRecord.{BaseRecord}
+use Rattle.progression.specs.TimingRecord.{TimingRecord, base}
 use Rattle.progression.specs.declared.parts.Dir.{Dir}
 use Rattle.diagram_draw.specs.declared.paint.Paint.{Paint}
 use Rattle.diagram_draw.specs.declared.paint.Paint.TheVariants as paint
@@ -26,15 +27,15 @@ pub record IsBlock (f : Frame) (part : BarPart) (s : Shape) : Type 0 where
 abbrev pub IsWindow : Frame → Street → TimingRecord → Dir → ℕ → Shape → Type 0
 IsWindow f a t d i s = IsTrue (has_band a t d) × IsBlock f (window_part f a t d i) s
 
-abbrev pub IsCommonRed : Frame → Street → TimingRecord → Dir → ℕ → Shape → Type 0
-IsCommonRed f a t d i s = IsBlock f (common_part f a t d i) s
+abbrev pub IsCommonRed : Frame → Street → BaseRecord → Dir → ℕ → Shape → Type 0
+IsCommonRed f a b d i s = IsBlock f (common_part f a b d i) s
 
 -- the rest of a red, where some left turn is against the direction
-abbrev pub IsTurnRed : Frame → Street → TimingRecord → Dir → ℕ → Shape → Type 0
-IsTurnRed f a t d i s = (1 ≤ left_against a d i) × IsBlock f (turn_part f a t d i) s
+abbrev pub IsTurnRed : Frame → Street → BaseRecord → Dir → ℕ → Shape → Type 0
+IsTurnRed f a b d i s = (1 ≤ left_against a d i) × IsBlock f (turn_part f a b d i) s
 
-abbrev pub IsRed : Frame → Street → TimingRecord → Dir → ℕ → Shape → Type 0
-IsRed f a t d i s = IsCommonRed f a t d i s ⊎ IsTurnRed f a t d i s
+abbrev pub IsRed : Frame → Street → BaseRecord → Dir → ℕ → Shape → Type 0
+IsRed f a b d i s = IsCommonRed f a b d i s ⊎ IsTurnRed f a b d i s
 
 -- ---- what stands on a link
 -- a part of the band that leaves or enters within the time that is shown, in one of the cycles
@@ -56,7 +57,7 @@ pub data IsFieldShape (f : Frame) (a : Street) (t : TimingRecord) (s : Shape) : 
   Piece : (d : Dir) (l : ℕ) → HasLink a l → IsPiece f a t d l s → IsFieldShape f a t s
   Ground : (d : Dir) (i : ℕ) → HasSignal a i → s ≡ ground f a d i → IsFieldShape f a t s
   Window : (d : Dir) (i : ℕ) → HasSignal a i → IsWindow f a t d i s → IsFieldShape f a t s
-  Red : (d : Dir) (i : ℕ) → HasSignal a i → IsRed f a t d i s → IsFieldShape f a t s
+  Red : (d : Dir) (i : ℕ) → HasSignal a i → IsRed f a (base t) d i s → IsFieldShape f a t s
 
 -- painted as either part of a red
 abbrev pub is_red_paint : Paint → Bool

@@ -3,7 +3,8 @@ use Rattle.std.specs.Prelude.{ℕ, ◌+◌, ◌-◌, pos, List, [], ◌∷◌, �
 use Rattle.std.specs.List.{flat_map, range_with_len}
 use Rattle.std.specs.Fmt.{decimal}
 use Rattle.progression.specs.Street.{Street, count, signal_of}
-use Rattle.progression.specs.TimingRecord.{TimingRecord}
+use Rattle.progression.specs.BaseRecord.{BaseRecord}
+use Rattle.progression.specs.TimingRecord.{TimingRecord, base}
 use Rattle.diagram_draw.specs.declared.paint.Paint.{Paint}
 use Rattle.diagram_draw.specs.declared.paint.Paint.TheVariants as paint
 use Rattle.diagram_draw.specs.declared.shape.Shape.{Shape}
@@ -57,14 +58,14 @@ key_shapes f =
     ++ (key_piece f 4100 paint.OutBand (key_top f + 170) (key_top f - 80) ∷ (key_piece f 6500 paint.InBand (key_top f - 80) (key_top f + 170) ∷ []))))
 
 -- ---- what is read aloud
-unfoldable pub signal_about : Street → TimingRecord → ℕ → List ℕ
-signal_about a t i = codes "; signal " ++ (decimal i ++ (codes ", " ++ (escaped (signal_of a i).name ++ (codes ", offset " ++ (offset_text a t i ++ codes " s")))))
+unfoldable pub signal_about : Street → BaseRecord → ℕ → List ℕ
+signal_about a b i = codes "; signal " ++ (decimal i ++ (codes ", " ++ (escaped (signal_of a i).name ++ (codes ", offset " ++ (offset_text a b i ++ codes " s")))))
 
-abbrev pub signals_about : Street → TimingRecord → List ℕ
-signals_about a t = flat_map (signal_about a t) (range_with_len 1 (count a))
+abbrev pub signals_about : Street → BaseRecord → List ℕ
+signals_about a b = flat_map (signal_about a b) (range_with_len 1 (count a))
 
 unfoldable pub about_text : Street → TimingRecord → List ℕ
-about_text a t = facts_text a t ++ signals_about a t
+about_text a t = facts_text a t ++ signals_about a (base t)
 
 -- ---- the drawing of a timing
 -- the bands, and over them the bars
@@ -76,7 +77,7 @@ drawn f a t title = record {
   frame = f;
   title = title_text a title;
   about = about_text a t;
-  back = back f a t;
+  back = back f a (base t);
   field = field_shapes f a t;
   steps = steps f a t;
   keys = key_shapes f;

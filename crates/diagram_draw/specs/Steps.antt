@@ -1,9 +1,10 @@
 -- Where a line steps: at each signal at which a queue is given time to clear, in the first cycle that is shown, a line at the edge of the bars is as long as
 -- that time, from where the band begins there to where vehicles would reach the signal that don't trail it yet.
-use Rattle.std.specs.Prelude.{ℕ, ◌+◌, ◌*◌, ◌==◌, ◌&&◌, nat_le, not, if◌then◌else◌, Bool, ℤ, pos, ◌+ℤ◌, ◌-ℤ◌, List, [], ◌∷◌, ◌++◌}
+use Rattle.std.specs.Prelude.{ℕ, ◌+◌, ◌*◌, ◌==◌, ◌&&◌, nat_le, not, if◌then◌else◌, Bool, ℤ, pos, ◌-ℤ◌, List, [], ◌∷◌, ◌++◌}
 use Rattle.std.specs.List.{flat_map, range_with_len}
 use Rattle.progression.specs.Street.{Street, count, clearance}
 use Rattle.progression.specs.TimingRecord.{TimingRecord, base}
+use Rattle.progression.specs.BaseRecord.{BaseRecord}
 use Rattle.progression.specs.Lines.{stop, line_at}
 use Rattle.progression.specs.declared.parts.Dir.{Dir}
 use Rattle.progression.specs.declared.parts.Dir.TheVariants.{Outbound, Inbound}
@@ -19,8 +20,8 @@ use Rattle.timing_words.specs.Ways.{has_band}
 abbrev pub has_step : Street → TimingRecord → Dir → ℕ → Bool
 has_step a t d i = nat_le 1 (clearance a d i) && (not (i == stop d (count a) 0) && has_band a t d)
 
-abbrev pub step_ticks : Street → TimingRecord → Dir → ℕ → ℕ
-step_ticks a t d i = clearance a d i * t.unit
+abbrev pub step_ticks : Street → BaseRecord → Dir → ℕ → ℕ
+step_ticks a b d i = clearance a d i * b.unit
 
 -- when the band begins at the signal
 abbrev pub step_moment : Street → TimingRecord → Dir → ℕ → ℕ
@@ -30,7 +31,7 @@ abbrev pub step_begin : Frame → Street → TimingRecord → Dir → ℕ → �
 step_begin f a t d i = x_at f (pos (step_moment a t d i))
 
 abbrev pub step_end : Frame → Street → TimingRecord → Dir → ℕ → ℤ
-step_end f a t d i = x_at f (pos (step_moment a t d i + step_ticks a t d i))
+step_end f a t d i = x_at f (pos (step_moment a t d i + step_ticks a (base t) d i))
 
 -- so far below a level, or above it: on the side of the bars from which the band comes
 abbrev pub beside : ℕ → Dir → ℕ → ℕ → ℤ

@@ -13,18 +13,18 @@ use crate::shape::Shape;
 use artery_model::Artery;
 use narrow_fraction::Memory;
 use std::alloc::{AllocError, Global};
-use time_space::Timing;
+use time_space::Base;
 
 /// So many steps of seconds are shown at most.
 const MOST_STEPS: u128 = 18;
 
 /// The whole seconds that are shown.
-fn seconds_shown(frame: Frame, timing: &Timing) -> u128
+fn seconds_shown(frame: Frame, base: &Base) -> u128
     requires { IsFrame frame }
-    ensures value { result ≡ seconds_shown frame timing.now }
+    ensures value { result ≡ seconds_shown frame base.now }
     ensures small { result < 2 ^ 96 }
 {
-    cycles_ticks(frame, frame.cycles) / timing.grid()
+    cycles_ticks(frame, frame.cycles) / base.grid()
 }
 
 /// The seconds between two lines.
@@ -61,12 +61,12 @@ fn step_for(seconds: u128) -> u32
 }
 
 /// How many lines of seconds there are.
-pub fn steps_shown(frame: Frame, timing: &Timing) -> u32
+pub fn steps_shown(frame: Frame, base: &Base) -> u32
     requires { IsFrame frame }
-    ensures value { result ≡ steps_shown frame timing.now }
+    ensures value { result ≡ steps_shown frame base.now }
     ensures most { result ≤ 19 }
 {
-    let seconds = seconds_shown(frame, timing);
+    let seconds = seconds_shown(frame, base);
     let steps = seconds / u128::from(step_for(seconds));
     if steps <= MOST_STEPS {
         steps as u32 + 1
@@ -76,41 +76,41 @@ pub fn steps_shown(frame: Frame, timing: &Timing) -> u32
 }
 
 /// The second of a line.
-pub fn second_at(frame: Frame, timing: &Timing, line: u32) -> u32
+pub fn second_at(frame: Frame, base: &Base, line: u32) -> u32
     requires frame { IsFrame frame }
     requires line { line ≤ 19 }
-    ensures value { result ≡ second_at frame timing.now line }
+    ensures value { result ≡ second_at frame base.now line }
     ensures most { result ≤ 68400 }
 {
-    line * step_for(seconds_shown(frame, timing))
+    line * step_for(seconds_shown(frame, base))
 }
 
 /// The ticks of a line's second.
-fn second_ticks(frame: Frame, timing: &Timing, line: u32) -> u128
+fn second_ticks(frame: Frame, base: &Base, line: u32) -> u128
     requires frame { IsFrame frame }
     requires line { line ≤ 19 }
-    ensures value { result ≡ second_at frame timing.now line * timing.now.grid }
+    ensures value { result ≡ second_at frame base.now line * base.now.grid }
     ensures small { result < 2 ^ 97 }
 {
-    u128::from(second_at(frame, timing, line)) * timing.grid()
+    u128::from(second_at(frame, base, line)) * base.grid()
 }
 
 /// Where a second stands.
-pub fn second_x(frame: Frame, timing: &Timing, line: u32) -> i128
+pub fn second_x(frame: Frame, base: &Base, line: u32) -> i128
     requires frame { IsFrame frame }
     requires line { line ≤ 19 }
-    ensures { result ≡ Rattle.diagram_draw.specs.Frames.x_at frame (pos (second_at frame timing.now line * timing.now.grid)) }
+    ensures { result ≡ Rattle.diagram_draw.specs.Frames.x_at frame (pos (second_at frame base.now line * base.now.grid)) }
 {
-    let ticks = second_ticks(frame, timing, line);
+    let ticks = second_ticks(frame, base, line);
     x_at(frame, ticks as i128)
 }
 
-fn second_line(frame: Frame, timing: &Timing, line: u32) -> Shape
+fn second_line(frame: Frame, base: &Base, line: u32) -> Shape
     requires frame { IsFrame frame }
     requires line { line ≤ 19 }
-    ensures { result ≡ second_line frame timing.now line }
+    ensures { result ≡ second_line frame base.now line }
 {
-    let x = second_x(frame, timing, line);
+    let x = second_x(frame, base, line);
     Shape::Line {
         paint: Paint::Second,
         x,
@@ -120,13 +120,13 @@ fn second_line(frame: Frame, timing: &Timing, line: u32) -> Shape
     }
 }
 
-fn second_lines(alloc: Global, frame: Frame, timing: &Timing) -> Result<Vec<Shape>, AllocError>
+fn second_lines(alloc: Global, frame: Frame, base: &Base) -> Result<Vec<Shape>, AllocError>
     requires { IsFrame frame }
-    ensures { IfOk result (λ shapes. shapes.items ≡ second_lines frame timing.now) }
+    ensures { IfOk result (λ shapes. shapes.items ≡ second_lines frame base.now) }
 {
     let mut shapes = Vec::new(alloc);
-    for line in 0..steps_shown(frame, timing) {
-        shapes.push(second_line(frame, timing, line))?;
+    for line in 0..steps_shown(frame, base) {
+        shapes.push(second_line(frame, base, line))?;
     }
     Ok(shapes)
 }
@@ -220,16 +220,11 @@ fn plot(frame: Frame) -> Shape
 }
 
 /// All that stands behind the bands.
-pub fn back(
-    alloc: Global,
-    frame: Frame,
-    artery: &Artery,
-    timing: &Timing,
-) -> Result<Vec<Shape>, Memory>
+pub fn back(alloc: Global, frame: Frame, artery: &Artery, base: &Base) -> Result<Vec<Shape>, Memory>
     requires { IsFrame frame }
-    ensures { IfOk result (λ shapes. shapes.items ≡ back frame artery.now timing.now) }
+    ensures { IfOk result (λ shapes. shapes.items ≡ back frame artery.now base.now) }
 {
-    let seconds = second_lines(alloc, frame, timing)?;
+    let seconds = second_lines(alloc, frame, base)?;
     let cycles = cycle_lines(alloc, frame)?;
     let levels = level_lines(alloc, frame, artery)?;
     let mut shapes = Vec::new(alloc);

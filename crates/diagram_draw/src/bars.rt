@@ -15,7 +15,7 @@ use crate::shape::Shape;
 use artery_model::{Artery, Dir};
 use narrow_fraction::Memory;
 use std::alloc::{AllocError, Global};
-use time_space::{Timing, is_early, line_at, red_start};
+use time_space::{Base, Timing, is_early, line_at};
 use timing_measures::after_start;
 use timing_words::has_band;
 
@@ -99,15 +99,15 @@ fn blocks(alloc: Global, frame: Frame, part: BarPart) -> Result<Vec<Shape>, Allo
 }
 
 /// Where a direction's red begins in the cycle before the first that is shown.
-fn first_red(frame: Frame, artery: &Artery, timing: &Timing, dir: Dir, signal: u32) -> i128
+fn first_red(frame: Frame, artery: &Artery, base: &Base, dir: Dir, signal: u32) -> i128
     requires frame { IsFrame frame }
-    requires shape { IsFor artery.now (base timing.now) }
+    requires shape { IsFor artery.now base.now }
     requires signal { HasSignal artery.now signal }
-    ensures value { result ≡ first_red frame artery.now timing.now dir signal }
+    ensures value { result ≡ first_red frame artery.now base.now dir signal }
     ensures small { unsigned_abs result < 2 ^ 98 }
 {
-    let start = red_start(artery, timing, dir, signal);
-    earlier(frame, 1, after_start(artery, timing.base(), start))
+    let start = base.red_start(artery, dir, signal);
+    earlier(frame, 1, after_start(artery, base, start))
 }
 
 /// Where a direction's band begins at a signal in the cycle before the first that is shown.
@@ -123,48 +123,48 @@ fn first_window(frame: Frame, artery: &Artery, timing: &Timing, dir: Dir, signal
 }
 
 /// The common red, in ticks.
-fn common_ticks(artery: &Artery, timing: &Timing, signal: u32) -> u128
+fn common_ticks(artery: &Artery, base: &Base, signal: u32) -> u128
     requires signal { HasSignal artery.now signal }
-    ensures value { result ≡ common_ticks artery.now timing.now signal }
+    ensures value { result ≡ common_ticks artery.now base.now signal }
     ensures small { result < 2 ^ 92 }
 {
-    u128::from(artery.common_red(signal)) * timing.unit()
+    u128::from(artery.common_red(signal)) * base.unit()
 }
 
 /// The rest of a direction's red, in ticks.
-fn turn_ticks(artery: &Artery, timing: &Timing, dir: Dir, signal: u32) -> u128
+fn turn_ticks(artery: &Artery, base: &Base, dir: Dir, signal: u32) -> u128
     requires signal { HasSignal artery.now signal }
-    ensures value { result ≡ turn_ticks artery.now timing.now dir signal }
+    ensures value { result ≡ turn_ticks artery.now base.now dir signal }
     ensures small { result < 2 ^ 92 }
 {
-    u128::from(artery.left_against(dir, signal)) * timing.unit()
+    u128::from(artery.left_against(dir, signal)) * base.unit()
 }
 
 /// How long after the start of a direction's red the common red begins.
-fn common_wait(artery: &Artery, timing: &Timing, dir: Dir, signal: u32) -> u128
-    requires shape { IsFor artery.now (base timing.now) }
+fn common_wait(artery: &Artery, base: &Base, dir: Dir, signal: u32) -> u128
+    requires shape { IsFor artery.now base.now }
     requires signal { HasSignal artery.now signal }
-    ensures value { result ≡ common_wait artery.now timing.now dir signal }
+    ensures value { result ≡ common_wait artery.now base.now dir signal }
     ensures small { result < 2 ^ 92 }
 {
-    if is_early(dir, timing.pattern(signal)) {
-        turn_ticks(artery, timing, dir, signal)
+    if is_early(dir, base.pattern(signal)) {
+        turn_ticks(artery, base, dir, signal)
     } else {
         0
     }
 }
 
 /// How long after the start of a direction's red the rest of it begins.
-fn turn_wait(artery: &Artery, timing: &Timing, dir: Dir, signal: u32) -> u128
-    requires shape { IsFor artery.now (base timing.now) }
+fn turn_wait(artery: &Artery, base: &Base, dir: Dir, signal: u32) -> u128
+    requires shape { IsFor artery.now base.now }
     requires signal { HasSignal artery.now signal }
-    ensures value { result ≡ turn_wait artery.now timing.now dir signal }
+    ensures value { result ≡ turn_wait artery.now base.now dir signal }
     ensures small { result < 2 ^ 92 }
 {
-    if is_early(dir, timing.pattern(signal)) {
+    if is_early(dir, base.pattern(signal)) {
         0
     } else {
-        common_ticks(artery, timing, signal)
+        common_ticks(artery, base, signal)
     }
 }
 
@@ -204,27 +204,27 @@ pub fn after(ticks: i128, wait: u128) -> i128
 }
 
 /// Where a direction's common red begins in the cycle before the first that is shown.
-fn first_common(frame: Frame, artery: &Artery, timing: &Timing, dir: Dir, signal: u32) -> i128
+fn first_common(frame: Frame, artery: &Artery, base: &Base, dir: Dir, signal: u32) -> i128
     requires frame { IsFrame frame }
-    requires shape { IsFor artery.now (base timing.now) }
+    requires shape { IsFor artery.now base.now }
     requires signal { HasSignal artery.now signal }
-    ensures value { result ≡ (common_part frame artery.now timing.now dir signal).begin }
+    ensures value { result ≡ (common_part frame artery.now base.now dir signal).begin }
     ensures small { unsigned_abs result < 2 ^ 99 }
 {
-    let first = first_red(frame, artery, timing, dir, signal);
-    after(first, common_wait(artery, timing, dir, signal))
+    let first = first_red(frame, artery, base, dir, signal);
+    after(first, common_wait(artery, base, dir, signal))
 }
 
 /// Where the rest of its red begins in that cycle.
-fn first_turn(frame: Frame, artery: &Artery, timing: &Timing, dir: Dir, signal: u32) -> i128
+fn first_turn(frame: Frame, artery: &Artery, base: &Base, dir: Dir, signal: u32) -> i128
     requires frame { IsFrame frame }
-    requires shape { IsFor artery.now (base timing.now) }
+    requires shape { IsFor artery.now base.now }
     requires signal { HasSignal artery.now signal }
-    ensures value { result ≡ (turn_part frame artery.now timing.now dir signal).begin }
+    ensures value { result ≡ (turn_part frame artery.now base.now dir signal).begin }
     ensures small { unsigned_abs result < 2 ^ 99 }
 {
-    let first = first_red(frame, artery, timing, dir, signal);
-    after(first, turn_wait(artery, timing, dir, signal))
+    let first = first_red(frame, artery, base, dir, signal);
+    after(first, turn_wait(artery, base, dir, signal))
 }
 
 /// A direction's band at a signal.
@@ -276,21 +276,21 @@ fn common_reds(
     alloc: Global,
     frame: Frame,
     artery: &Artery,
-    timing: &Timing,
+    base: &Base,
     dir: Dir,
     signal: u32,
 ) -> Result<Vec<Shape>, AllocError>
     requires frame { IsFrame frame }
-    requires shape { IsFor artery.now (base timing.now) }
+    requires shape { IsFor artery.now base.now }
     requires signal { HasSignal artery.now signal }
-    ensures { IfOk result (λ shapes. shapes.items ≡ common_reds frame artery.now timing.now dir signal) }
+    ensures { IfOk result (λ shapes. shapes.items ≡ common_reds frame artery.now base.now dir signal) }
 {
     let top = bar_top(frame, artery, dir, signal);
     let part = BarPart {
         paint: Paint::CommonRed,
         top,
-        begin: first_common(frame, artery, timing, dir, signal),
-        ticks: common_ticks(artery, timing, signal),
+        begin: first_common(frame, artery, base, dir, signal),
+        ticks: common_ticks(artery, base, signal),
     };
     blocks(alloc, frame, part)
 }
@@ -300,21 +300,21 @@ fn some_turn_reds(
     alloc: Global,
     frame: Frame,
     artery: &Artery,
-    timing: &Timing,
+    base: &Base,
     dir: Dir,
     signal: u32,
 ) -> Result<Vec<Shape>, AllocError>
     requires frame { IsFrame frame }
-    requires shape { IsFor artery.now (base timing.now) }
+    requires shape { IsFor artery.now base.now }
     requires signal { HasSignal artery.now signal }
-    ensures { IfOk result (λ shapes. shapes.items ≡ blocks frame (turn_part frame artery.now timing.now dir signal)) }
+    ensures { IfOk result (λ shapes. shapes.items ≡ blocks frame (turn_part frame artery.now base.now dir signal)) }
 {
     let top = bar_top(frame, artery, dir, signal);
     let part = BarPart {
         paint: Paint::TurnRed,
         top,
-        begin: first_turn(frame, artery, timing, dir, signal),
-        ticks: turn_ticks(artery, timing, dir, signal),
+        begin: first_turn(frame, artery, base, dir, signal),
+        ticks: turn_ticks(artery, base, dir, signal),
     };
     blocks(alloc, frame, part)
 }
@@ -324,19 +324,19 @@ fn turn_reds(
     alloc: Global,
     frame: Frame,
     artery: &Artery,
-    timing: &Timing,
+    base: &Base,
     dir: Dir,
     signal: u32,
 ) -> Result<Vec<Shape>, AllocError>
     requires frame { IsFrame frame }
-    requires shape { IsFor artery.now (base timing.now) }
+    requires shape { IsFor artery.now base.now }
     requires signal { HasSignal artery.now signal }
-    ensures { IfOk result (λ shapes. shapes.items ≡ turn_reds frame artery.now timing.now dir signal) }
+    ensures { IfOk result (λ shapes. shapes.items ≡ turn_reds frame artery.now base.now dir signal) }
 {
     if artery.left_against(dir, signal) == 0 {
         return Ok(Vec::new(alloc));
     }
-    some_turn_reds(alloc, frame, artery, timing, dir, signal)
+    some_turn_reds(alloc, frame, artery, base, dir, signal)
 }
 
 /// A direction's bar at a signal.
@@ -353,9 +353,10 @@ fn bar(
     requires signal { HasSignal artery.now signal }
     ensures { IfOk result (λ shapes. shapes.items ≡ bar frame artery.now timing.now dir signal) }
 {
+    let base = timing.base();
     let windows = windows(alloc, frame, artery, timing, dir, signal)?;
-    let common = common_reds(alloc, frame, artery, timing, dir, signal)?;
-    let turns = turn_reds(alloc, frame, artery, timing, dir, signal)?;
+    let common = common_reds(alloc, frame, artery, base, dir, signal)?;
+    let turns = turn_reds(alloc, frame, artery, base, dir, signal)?;
     let mut shapes = Vec::new(alloc);
     shapes.push(ground(frame, artery, dir, signal))?;
     shapes.extend_from_slice(windows.as_slice())?;

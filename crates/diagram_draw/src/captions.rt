@@ -32,7 +32,7 @@ use artery_model::{Artery, Dir, Units};
 use narrow_fraction::{Frac, Memory};
 use progression::Text;
 use quantity_text::{push_number, push_text};
-use time_space::{Base, Timing, cycle, is_early, value};
+use time_space::{Base, Timing, is_early, value};
 use timing_measures::{cycle_seconds, offset, round_to, seconds, signal_name, some_speed};
 use timing_words::{dir_word, has_band, push_moment, push_percent, push_seconds, push_tenths};
 
@@ -70,14 +70,14 @@ fn push_thousandths(out: &mut Vec<u8>, value: Frac) -> Result<(), Memory>
 }
 
 /// Writes a width in seconds: what is less than a second, to hundredths.
-fn push_width(out: &mut Vec<u8>, timing: &Timing, ticks: u128) -> Result<(), Memory>
+fn push_width(out: &mut Vec<u8>, base: &Base, ticks: u128) -> Result<(), Memory>
     requires { ticks < 2 ^ 126 }
-    ensures { OnOk result (out.new.items ≡ out.old.items ++ width_text timing.now ticks) }
+    ensures { OnOk result (out.new.items ≡ out.old.items ++ width_text base.now ticks) }
 {
-    if timing.grid() <= ticks {
-        push_seconds(out, timing.base(), ticks)
+    if base.grid() <= ticks {
+        push_seconds(out, base, ticks)
     } else {
-        push_hundredths(out, seconds(timing.base(), ticks))
+        push_hundredths(out, seconds(base, ticks))
     }
 }
 
@@ -85,19 +85,14 @@ fn push_width(out: &mut Vec<u8>, timing: &Timing, ticks: u128) -> Result<(), Mem
 pub fn push_offset(
     out: &mut Vec<u8>,
     artery: &Artery,
-    timing: &Timing,
+    base: &Base,
     signal: u32,
 ) -> Result<(), Memory>
     requires first { 1 ≤ signal }
-    requires last { signal ≤ length timing.now.patterns }
-    ensures { OnOk result (out.new.items ≡ out.old.items ++ offset_text artery.now timing.now signal) }
+    requires last { signal ≤ length base.now.patterns }
+    ensures { OnOk result (out.new.items ≡ out.old.items ++ offset_text artery.now base.now signal) }
 {
-    push_moment(
-        out,
-        artery,
-        timing.base(),
-        offset(artery, timing.base(), signal),
-    )
+    push_moment(out, artery, base, offset(artery, base, signal))
 }
 
 /// The name of the street, or what the drawing is.
@@ -149,7 +144,7 @@ fn push_width_facts(
     ensures { OnOk result (out.new.items ≡ out.old.items ++ width_facts artery.now timing.now dir) }
 {
     push_text(out, " band ")?;
-    push_width(out, timing, timing.band(dir))?;
+    push_width(out, timing.base(), timing.band(dir))?;
     push_text(out, " s = ")?;
     push_percent(out, artery, timing, dir)?;
     push_text(out, " % of the cycle")
@@ -198,11 +193,11 @@ fn push_band_facts(
 
 /// Writes the cycle.
 #[tactic(auto, unfolding(crate::specs::Captions::cycle_facts))]
-fn push_cycle_facts(out: &mut Vec<u8>, artery: &Artery, timing: &Timing) -> Result<(), Memory>
-    ensures { OnOk result (out.new.items ≡ out.old.items ++ cycle_facts artery.now timing.now) }
+fn push_cycle_facts(out: &mut Vec<u8>, artery: &Artery, base: &Base) -> Result<(), Memory>
+    ensures { OnOk result (out.new.items ≡ out.old.items ++ cycle_facts artery.now base.now) }
 {
     push_text(out, "cycle ")?;
-    push_tenths(out, cycle_seconds(artery, timing.base()))?;
+    push_tenths(out, cycle_seconds(artery, base))?;
     push_text(out, " s")
 }
 
@@ -241,7 +236,7 @@ pub fn push_facts(out: &mut Vec<u8>, artery: &Artery, timing: &Timing) -> Result
     requires { IsFor artery.now (base timing.now) }
     ensures { OnOk result (out.new.items ≡ out.old.items ++ facts_text artery.now timing.now) }
 {
-    push_cycle_facts(out, artery, timing)?;
+    push_cycle_facts(out, artery, timing.base())?;
     push_band_facts(out, artery, timing, Dir::Outbound)?;
     push_band_facts(out, artery, timing, Dir::Inbound)?;
     push_weighted_facts(out, artery, timing)
@@ -540,30 +535,25 @@ fn push_cycle_numbers(out: &mut Vec<u8>, frame: Frame) -> Result<(), Memory>
 
 /// Writes the second of a line below it.
 #[tactic(auto, unfolding(crate::specs::Shapes::words_text))]
-fn push_second_number(
-    out: &mut Vec<u8>,
-    frame: Frame,
-    timing: &Timing,
-    line: u32,
-) -> Result<(), Memory>
+fn push_second_number(out: &mut Vec<u8>, frame: Frame, base: &Base, line: u32) -> Result<(), Memory>
     requires frame { IsFrame frame }
     requires line { line ≤ 19 }
-    ensures { OnOk result (out.new.items ≡ out.old.items ++ caption_text (second_number frame timing.now line)) }
+    ensures { OnOk result (out.new.items ≡ out.old.items ++ caption_text (second_number frame base.now line)) }
 {
-    let x = second_x(frame, timing, line);
+    let x = second_x(frame, base, line);
     let y = i128::from(plot_bottom(frame) + 210);
     push_words_opening(out, Letter::Axis, x, y)?;
-    push_number(out, second_at(frame, timing, line) as u128)?;
+    push_number(out, second_at(frame, base, line) as u128)?;
     push_words_end(out)
 }
 
 /// Writes the numbers of seconds below the field.
-fn push_second_numbers(out: &mut Vec<u8>, frame: Frame, timing: &Timing) -> Result<(), Memory>
+fn push_second_numbers(out: &mut Vec<u8>, frame: Frame, base: &Base) -> Result<(), Memory>
     requires { IsFrame frame }
-    ensures { OnOk result (out.new.items ≡ out.old.items ++ captions_text (second_numbers frame timing.now)) }
+    ensures { OnOk result (out.new.items ≡ out.old.items ++ captions_text (second_numbers frame base.now)) }
 {
-    for line in 0..steps_shown(frame, timing) {
-        push_second_number(out, frame, timing, line)?;
+    for line in 0..steps_shown(frame, base) {
+        push_second_number(out, frame, base, line)?;
     }
     Ok(())
 }
@@ -625,50 +615,40 @@ fn turn_word(turn: u32, early: bool) -> &'static str
 }
 
 /// How the left turn goes that is against a direction.
-fn turn_text(artery: &Artery, timing: &Timing, dir: Dir, signal: u32) -> &'static str
-    requires shape { IsFor artery.now (base timing.now) }
+fn turn_text(artery: &Artery, base: &Base, dir: Dir, signal: u32) -> &'static str
+    requires shape { IsFor artery.now base.now }
     requires signal { HasSignal artery.now signal }
-    ensures { result.now ≡ turn_text artery.now timing.now dir signal }
+    ensures { result.now ≡ turn_text artery.now base.now dir signal }
 {
     turn_word(
         artery.left_against(dir, signal),
-        is_early(dir, timing.pattern(signal)),
+        is_early(dir, base.pattern(signal)),
     )
 }
 
 /// Writes how both left turns of a signal go.
-fn push_turns(
-    out: &mut Vec<u8>,
-    artery: &Artery,
-    timing: &Timing,
-    signal: u32,
-) -> Result<(), Memory>
-    requires shape { IsFor artery.now (base timing.now) }
+fn push_turns(out: &mut Vec<u8>, artery: &Artery, base: &Base, signal: u32) -> Result<(), Memory>
+    requires shape { IsFor artery.now base.now }
     requires signal { HasSignal artery.now signal }
-    ensures { OnOk result (out.new.items ≡ out.old.items ++ (turn_text artery.now timing.now Inbound signal ++ (codes "/" ++ turn_text artery.now timing.now Outbound signal))) }
+    ensures { OnOk result (out.new.items ≡ out.old.items ++ (turn_text artery.now base.now Inbound signal ++ (codes "/" ++ turn_text artery.now base.now Outbound signal))) }
 {
-    push_text(out, turn_text(artery, timing, Dir::Inbound, signal))?;
+    push_text(out, turn_text(artery, base, Dir::Inbound, signal))?;
     push_text(out, "/")?;
-    push_text(out, turn_text(artery, timing, Dir::Outbound, signal))
+    push_text(out, turn_text(artery, base, Dir::Outbound, signal))
 }
 
 /// Writes the pattern of a signal in words.
-fn push_pattern(
-    out: &mut Vec<u8>,
-    artery: &Artery,
-    timing: &Timing,
-    signal: u32,
-) -> Result<(), Memory>
-    requires shape { IsFor artery.now (base timing.now) }
+fn push_pattern(out: &mut Vec<u8>, artery: &Artery, base: &Base, signal: u32) -> Result<(), Memory>
+    requires shape { IsFor artery.now base.now }
     requires signal { HasSignal artery.now signal }
-    ensures { OnOk result (out.new.items ≡ out.old.items ++ pattern_text artery.now timing.now signal) }
+    ensures { OnOk result (out.new.items ≡ out.old.items ++ pattern_text artery.now base.now signal) }
 {
     let inbound = artery.left_against(Dir::Outbound, signal);
     let outbound = artery.left_against(Dir::Inbound, signal);
     if inbound == 0 && outbound == 0 {
         return push_text(out, "-");
     }
-    push_turns(out, artery, timing, signal)
+    push_turns(out, artery, base, signal)
 }
 
 /// Writes the pattern of a signal at a point.
@@ -678,15 +658,15 @@ fn push_pattern_words(
     x: u32,
     y: u32,
     artery: &Artery,
-    timing: &Timing,
+    base: &Base,
     signal: u32,
 ) -> Result<(), Memory>
-    requires shape { IsFor artery.now (base timing.now) }
+    requires shape { IsFor artery.now base.now }
     requires signal { HasSignal artery.now signal }
-    ensures { OnOk result (out.new.items ≡ out.old.items ++ words_text Number (pos x) (pos y) (pattern_text artery.now timing.now signal)) }
+    ensures { OnOk result (out.new.items ≡ out.old.items ++ words_text Number (pos x) (pos y) (pattern_text artery.now base.now signal)) }
 {
     push_opening(out, Letter::Number, x, y)?;
-    push_pattern(out, artery, timing, signal)?;
+    push_pattern(out, artery, base, signal)?;
     push_words_end(out)
 }
 
@@ -697,15 +677,15 @@ fn push_offset_words(
     x: u32,
     y: u32,
     artery: &Artery,
-    timing: &Timing,
+    base: &Base,
     signal: u32,
 ) -> Result<(), Memory>
     requires first { 1 ≤ signal }
-    requires last { signal ≤ length timing.now.patterns }
-    ensures { OnOk result (out.new.items ≡ out.old.items ++ words_text Number (pos x) (pos y) (offset_text artery.now timing.now signal)) }
+    requires last { signal ≤ length base.now.patterns }
+    ensures { OnOk result (out.new.items ≡ out.old.items ++ words_text Number (pos x) (pos y) (offset_text artery.now base.now signal)) }
 {
     push_opening(out, Letter::Number, x, y)?;
-    push_offset(out, artery, timing, signal)?;
+    push_offset(out, artery, base, signal)?;
     push_words_end(out)
 }
 
@@ -715,18 +695,18 @@ fn push_signal_row(
     out: &mut Vec<u8>,
     frame: Frame,
     artery: &Artery,
-    timing: &Timing,
+    base: &Base,
     signal: u32,
 ) -> Result<(), Memory>
     requires frame { IsFrame frame }
-    requires shape { IsFor artery.now (base timing.now) }
+    requires shape { IsFor artery.now base.now }
     requires signal { HasSignal artery.now signal }
-    ensures { OnOk result (out.new.items ≡ out.old.items ++ captions_text (signal_row frame artery.now timing.now signal)) }
+    ensures { OnOk result (out.new.items ≡ out.old.items ++ captions_text (signal_row frame artery.now base.now signal)) }
 {
     let y = row_level(frame, artery, signal);
     push_number_words(out, 330, y, signal)?;
-    push_pattern_words(out, frame.left - 760, y, artery, timing, signal)?;
-    push_offset_words(out, frame.left - 170, y, artery, timing, signal)
+    push_pattern_words(out, frame.left - 760, y, artery, base, signal)?;
+    push_offset_words(out, frame.left - 170, y, artery, base, signal)
 }
 
 /// Writes the numbers of the signals.
@@ -734,14 +714,14 @@ fn push_signal_rows(
     out: &mut Vec<u8>,
     frame: Frame,
     artery: &Artery,
-    timing: &Timing,
+    base: &Base,
 ) -> Result<(), Memory>
     requires frame { IsFrame frame }
-    requires shape { IsFor artery.now (base timing.now) }
-    ensures { OnOk result (out.new.items ≡ out.old.items ++ captions_text (signal_rows frame artery.now timing.now)) }
+    requires shape { IsFor artery.now base.now }
+    ensures { OnOk result (out.new.items ≡ out.old.items ++ captions_text (signal_rows frame artery.now base.now)) }
 {
     for signal in 1..artery.count() + 1 {
-        push_signal_row(out, frame, artery, timing, signal)?;
+        push_signal_row(out, frame, artery, base, signal)?;
     }
     Ok(())
 }
@@ -790,15 +770,15 @@ fn push_lengths_words(
 fn push_link_speed(
     out: &mut Vec<u8>,
     artery: &Artery,
-    timing: &Timing,
+    base: &Base,
     dir: Dir,
     link: u32,
 ) -> Result<(), Memory>
-    requires shape { IsFor artery.now (base timing.now) }
+    requires shape { IsFor artery.now base.now }
     requires link { HasLink artery.now link }
-    ensures { OnOk result (out.new.items ≡ out.old.items ++ link_speed_text artery.now timing.now dir link) }
+    ensures { OnOk result (out.new.items ≡ out.old.items ++ link_speed_text artery.now base.now dir link) }
 {
-    match some_speed(artery, timing.base(), dir, link) {
+    match some_speed(artery, base, dir, link) {
         Some(speed) => push_tenths(out, speed),
         None => push_text(out, "-"),
     }
@@ -811,16 +791,16 @@ fn push_speed_words(
     x: u32,
     y: u32,
     artery: &Artery,
-    timing: &Timing,
+    base: &Base,
     dir: Dir,
     link: u32,
 ) -> Result<(), Memory>
-    requires shape { IsFor artery.now (base timing.now) }
+    requires shape { IsFor artery.now base.now }
     requires link { HasLink artery.now link }
-    ensures { OnOk result (out.new.items ≡ out.old.items ++ words_text Number (pos x) (pos y) (link_speed_text artery.now timing.now dir link)) }
+    ensures { OnOk result (out.new.items ≡ out.old.items ++ words_text Number (pos x) (pos y) (link_speed_text artery.now base.now dir link)) }
 {
     push_opening(out, Letter::Number, x, y)?;
-    push_link_speed(out, artery, timing, dir, link)?;
+    push_link_speed(out, artery, base, dir, link)?;
     push_words_end(out)
 }
 
@@ -830,13 +810,13 @@ fn push_link_row(
     out: &mut Vec<u8>,
     frame: Frame,
     artery: &Artery,
-    timing: &Timing,
+    base: &Base,
     link: u32,
 ) -> Result<(), Memory>
     requires frame { IsFrame frame }
-    requires shape { IsFor artery.now (base timing.now) }
+    requires shape { IsFor artery.now base.now }
     requires link { HasLink artery.now link }
-    ensures { OnOk result (out.new.items ≡ out.old.items ++ captions_text (link_row frame artery.now timing.now link)) }
+    ensures { OnOk result (out.new.items ≡ out.old.items ++ captions_text (link_row frame artery.now base.now link)) }
 {
     let y = link_level(frame, artery, link);
     let right = plot_right(frame);
@@ -844,8 +824,8 @@ fn push_link_row(
     let outbound = artery.distance(Dir::Outbound, link);
     let inbound = artery.distance(Dir::Inbound, link);
     push_lengths_words(out, right + 880, y, both, outbound, inbound)?;
-    push_speed_words(out, right + 1480, y, artery, timing, Dir::Outbound, link)?;
-    push_speed_words(out, right + 2060, y, artery, timing, Dir::Inbound, link)
+    push_speed_words(out, right + 1480, y, artery, base, Dir::Outbound, link)?;
+    push_speed_words(out, right + 2060, y, artery, base, Dir::Inbound, link)
 }
 
 /// Writes the numbers of the links.
@@ -853,14 +833,14 @@ fn push_link_rows(
     out: &mut Vec<u8>,
     frame: Frame,
     artery: &Artery,
-    timing: &Timing,
+    base: &Base,
 ) -> Result<(), Memory>
     requires frame { IsFrame frame }
-    requires shape { IsFor artery.now (base timing.now) }
-    ensures { OnOk result (out.new.items ≡ out.old.items ++ captions_text (link_rows frame artery.now timing.now)) }
+    requires shape { IsFor artery.now base.now }
+    ensures { OnOk result (out.new.items ≡ out.old.items ++ captions_text (link_rows frame artery.now base.now)) }
 {
     for link in 1..artery.count() {
-        push_link_row(out, frame, artery, timing, link)?;
+        push_link_row(out, frame, artery, base, link)?;
     }
     Ok(())
 }
@@ -994,10 +974,11 @@ fn push_mark(
     requires signal { HasSignal artery.now signal }
     ensures { OnOk result (out.new.items ≡ out.old.items ++ caption_text (mark frame artery.now timing.now dir signal)) }
 {
+    let base = timing.base();
     let x = step_begin(frame, artery, timing, dir, signal);
     let y = mark_level(frame, artery, dir, signal);
     push_words_opening(out, Letter::Mark, x, y)?;
-    push_some_seconds(out, timing.base(), step_ticks(artery, timing, dir, signal))?;
+    push_some_seconds(out, base, step_ticks(artery, base, dir, signal))?;
     push_words_end(out)
 }
 
@@ -1068,31 +1049,21 @@ fn push_above(out: &mut Vec<u8>, frame: Frame, artery: &Artery) -> Result<(), Me
 }
 
 /// Writes the words beside the field.
-fn push_beside(
-    out: &mut Vec<u8>,
-    frame: Frame,
-    artery: &Artery,
-    timing: &Timing,
-) -> Result<(), Memory>
+fn push_beside(out: &mut Vec<u8>, frame: Frame, artery: &Artery, base: &Base) -> Result<(), Memory>
     requires frame { IsFrame frame }
-    requires shape { IsFor artery.now (base timing.now) }
-    ensures { OnOk result (out.new.items ≡ out.old.items ++ captions_text (beside frame artery.now timing.now)) }
+    requires shape { IsFor artery.now base.now }
+    ensures { OnOk result (out.new.items ≡ out.old.items ++ captions_text (beside frame artery.now base.now)) }
 {
-    push_signal_rows(out, frame, artery, timing)?;
-    push_link_rows(out, frame, artery, timing)
+    push_signal_rows(out, frame, artery, base)?;
+    push_link_rows(out, frame, artery, base)
 }
 
 /// Writes the words below the field.
-fn push_below(
-    out: &mut Vec<u8>,
-    frame: Frame,
-    artery: &Artery,
-    timing: &Timing,
-) -> Result<(), Memory>
+fn push_below(out: &mut Vec<u8>, frame: Frame, artery: &Artery, base: &Base) -> Result<(), Memory>
     requires { IsFrame frame }
-    ensures { OnOk result (out.new.items ≡ out.old.items ++ captions_text (below frame artery.now timing.now)) }
+    ensures { OnOk result (out.new.items ≡ out.old.items ++ captions_text (below frame artery.now base.now)) }
 {
-    push_second_numbers(out, frame, timing)?;
+    push_second_numbers(out, frame, base)?;
     push_red_words(out, frame)?;
     push_band_words(out, frame)?;
     push_notes(out, frame)?;
@@ -1110,8 +1081,9 @@ pub fn push_captions(
     requires shape { IsFor artery.now (base timing.now) }
     ensures { OnOk result (out.new.items ≡ out.old.items ++ captions_text (captions frame artery.now timing.now)) }
 {
+    let base = timing.base();
     push_above(out, frame, artery)?;
-    push_beside(out, frame, artery, timing)?;
+    push_beside(out, frame, artery, base)?;
     push_marks(out, frame, artery, timing)?;
-    push_below(out, frame, artery, timing)
+    push_below(out, frame, artery, base)
 }

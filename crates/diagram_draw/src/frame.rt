@@ -8,7 +8,7 @@ ghost use Rattle.time_space.specs.Timing.{IsFor};
 
 use crate::width::{NAME_SIZE, text_width};
 use artery_model::{Artery, Dir};
-use time_space::{Timing, cycle};
+use time_space::{Base, Timing};
 use timing_measures::signal_name;
 
 /// How wide the field of the diagram is for up to so many cycles, and how much wider it is for each further one.
@@ -56,15 +56,15 @@ pub struct Frame {
 
 /// How many ticks the runs of the first links take together.
 #[tactic(auto, using(crate::proofs::Measures::trip_up))]
-fn trip(timing: &Timing, dir: Dir, links: u32) -> u128
-    requires last { links < length timing.now.patterns }
+fn trip(base: &Base, dir: Dir, links: u32) -> u128
+    requires last { links < length base.now.patterns }
     requires many { links ≤ 24 }
-    ensures value { result ≡ trip timing.now dir links }
+    ensures value { result ≡ trip base.now dir links }
     ensures small { result ≤ links * 2 ^ 80 }
 {
     let mut ticks = 0;
     for link in 1..links + 1 {
-        ticks += timing.run(dir, link);
+        ticks += base.run(dir, link);
     }
     ticks
 }
@@ -76,7 +76,7 @@ fn reach(artery: &Artery, timing: &Timing, dir: Dir) -> u128
     ensures small { result < 2 ^ 86 }
 {
     let links = artery.count() - 1;
-    trip(timing, dir, links) + timing.band(dir)
+    trip(timing.base(), dir, links) + timing.band(dir)
 }
 
 fn longest_reach(artery: &Artery, timing: &Timing) -> u128
@@ -186,7 +186,7 @@ pub fn frame_of(artery: &Artery, timing: &Timing) -> Frame
     ensures value { result ≡ frame_of artery.now timing.now }
     ensures range { IsFrame result }
 {
-    let cycle = cycle(artery, timing);
+    let cycle = timing.base().cycle(artery);
     Frame {
         left: name_room(artery) + COLUMNS_LEFT,
         cycles: cycles_for(longest_reach(artery, timing), cycle),

@@ -1,8 +1,8 @@
 //! Time-space diagrams as pictures: SVG documents that a browser shows and prints.
 //!
-//! Contracts see an `Artery` as a `Street` and a `Timing` as a `TimingRecord`. `specs/Pages` has the drawing of a timing, a list of shapes
-//! and words with exact places, and its text. `specs/Bars` and `specs/Bands` say which shapes stand for reds and bands, and
-//! `specs/Frames` where a moment and a signal stand. Start with `draw`.
+//! Contracts see an `Artery` as a `Street`, a `Timing` as a `TimingRecord` and its `Base`, of which the reds and the axes speak, as a
+//! `BaseRecord`. `specs/Pages` has the drawing of a timing, a list of shapes and words with exact places, and its text. `specs/Bars` and
+//! `specs/Bands` say which shapes stand for reds and bands, and `specs/Frames` where a moment and a signal stand. Start with `draw`.
 #![tactic(auto)]
 
 mod axes;

@@ -27,7 +27,7 @@ use artery_model::Artery;
 use narrow_fraction::Memory;
 use quantity_text::{push_number, push_text};
 use std::alloc::Global;
-use time_space::Timing;
+use time_space::{Base, Timing};
 use timing_measures::signal_name;
 
 /// A part of a sample of a bar.
@@ -118,27 +118,27 @@ fn push_signal_opening(out: &mut Vec<u8>, signal: u32) -> Result<(), Memory>
 fn push_signal_about(
     out: &mut Vec<u8>,
     artery: &Artery,
-    timing: &Timing,
+    base: &Base,
     signal: u32,
 ) -> Result<(), Memory>
-    requires shape { IsFor artery.now (base timing.now) }
+    requires shape { IsFor artery.now base.now }
     requires signal { HasSignal artery.now signal }
-    ensures { OnOk result (out.new.items ≡ out.old.items ++ signal_about artery.now timing.now signal) }
+    ensures { OnOk result (out.new.items ≡ out.old.items ++ signal_about artery.now base.now signal) }
 {
     push_signal_opening(out, signal)?;
     push_escaped(out, signal_name(artery, signal).as_bytes())?;
     push_text(out, ", offset ")?;
-    push_offset(out, artery, timing, signal)?;
+    push_offset(out, artery, base, signal)?;
     push_text(out, " s")
 }
 
 /// Writes the same of all signals.
-fn push_signals_about(out: &mut Vec<u8>, artery: &Artery, timing: &Timing) -> Result<(), Memory>
-    requires { IsFor artery.now (base timing.now) }
-    ensures { OnOk result (out.new.items ≡ out.old.items ++ signals_about artery.now timing.now) }
+fn push_signals_about(out: &mut Vec<u8>, artery: &Artery, base: &Base) -> Result<(), Memory>
+    requires { IsFor artery.now base.now }
+    ensures { OnOk result (out.new.items ≡ out.old.items ++ signals_about artery.now base.now) }
 {
     for signal in 1..artery.count() + 1 {
-        push_signal_about(out, artery, timing, signal)?;
+        push_signal_about(out, artery, base, signal)?;
     }
     Ok(())
 }
@@ -150,7 +150,7 @@ fn push_about(out: &mut Vec<u8>, artery: &Artery, timing: &Timing) -> Result<(),
     ensures { OnOk result (out.new.items ≡ out.old.items ++ about_text artery.now timing.now) }
 {
     push_facts(out, artery, timing)?;
-    push_signals_about(out, artery, timing)
+    push_signals_about(out, artery, timing.base())
 }
 
 /// What is seen through the field of the diagram.
@@ -310,17 +310,12 @@ fn push_head(
 }
 
 /// Writes what stands behind.
-fn push_back(
-    out: &mut Vec<u8>,
-    frame: Frame,
-    artery: &Artery,
-    timing: &Timing,
-) -> Result<(), Memory>
+fn push_back(out: &mut Vec<u8>, frame: Frame, artery: &Artery, base: &Base) -> Result<(), Memory>
     requires { IsFrame frame }
-    ensures { OnOk result (out.new.items ≡ out.old.items ++ shapes_text (back frame artery.now timing.now)) }
+    ensures { OnOk result (out.new.items ≡ out.old.items ++ shapes_text (back frame artery.now base.now)) }
 {
     let alloc = *out.allocator();
-    let shapes = back(alloc, frame, artery, timing)?;
+    let shapes = back(alloc, frame, artery, base)?;
     push_shapes(out, shapes.as_slice())
 }
 
@@ -376,9 +371,9 @@ fn push_body(
 ) -> Result<(), Memory>
     requires frame { IsFrame frame }
     requires shape { IsFor artery.now (base timing.now) }
-    ensures { OnOk result (out.new.items ≡ out.old.items ++ body_text (back frame artery.now timing.now) (field_shapes frame artery.now timing.now) (steps frame artery.now timing.now)) }
+    ensures { OnOk result (out.new.items ≡ out.old.items ++ body_text (back frame artery.now (base timing.now)) (field_shapes frame artery.now timing.now) (steps frame artery.now timing.now)) }
 {
-    push_back(out, frame, artery, timing)?;
+    push_back(out, frame, artery, timing.base())?;
     push_field(out, frame, artery, timing)?;
     push_steps(out, frame, artery, timing)
 }

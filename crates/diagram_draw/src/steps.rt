@@ -12,7 +12,7 @@ use crate::shape::Shape;
 use artery_model::{Artery, Dir};
 use narrow_fraction::Memory;
 use std::alloc::{AllocError, Global};
-use time_space::{Timing, line_at};
+use time_space::{Base, Timing, line_at};
 use timing_measures::after_start;
 use timing_words::has_band;
 
@@ -38,12 +38,12 @@ pub fn has_step(artery: &Artery, timing: &Timing, dir: Dir, signal: u32) -> bool
 }
 
 /// How far it steps, in ticks.
-pub fn step_ticks(artery: &Artery, timing: &Timing, dir: Dir, signal: u32) -> u128
+pub fn step_ticks(artery: &Artery, base: &Base, dir: Dir, signal: u32) -> u128
     requires signal { HasSignal artery.now signal }
-    ensures value { result ≡ step_ticks artery.now timing.now dir signal }
+    ensures value { result ≡ step_ticks artery.now base.now dir signal }
     ensures small { result < 2 ^ 92 }
 {
-    u128::from(artery.clearance(dir, signal)) * timing.unit()
+    u128::from(artery.clearance(dir, signal)) * base.unit()
 }
 
 /// When the band begins at the signal in the first cycle that is shown.
@@ -83,7 +83,10 @@ fn step_end(frame: Frame, artery: &Artery, timing: &Timing, dir: Dir, signal: u3
     ensures { result ≡ step_end frame artery.now timing.now dir signal }
 {
     let moment = step_moment(artery, timing, dir, signal);
-    place(frame, moment + step_ticks(artery, timing, dir, signal))
+    place(
+        frame,
+        moment + step_ticks(artery, timing.base(), dir, signal),
+    )
 }
 
 /// So far above a level, or below it.

@@ -1,4 +1,4 @@
-use Rattle.std.proofs.Common.{rules, ◌≡◌, ◌++◌, FitsSigned, arith}
+use Rattle.std.proofs.Common.{rules, ◌≡◌, ◌++◌, FitsSigned}
 use Rattle.std.specs.Int.{w128}
 use Rattle.std.proofs.lemmas.Int.{to_z-of_z}
 use Rattle.diagram_draw.specs.Bands.{chosen_piece, band_in_cycle}

@@ -1,6 +1,5 @@
-use Rattle.std.proofs.Common.{◌++◌, ◌∙◌, ap, codes}
+use Rattle.std.proofs.Common.{◌++◌, ◌∙◌, codes}
 use Rattle.std.proofs.lemmas.Result.{on_ok_weaker}
-use Rattle.timing_measures.specs.Measures.{cycle_seconds}
 use Rattle.timing_words.specs.Numbers.{tenths}
 use Rattle.diagram_draw.specs.Captions.{cycle_facts}
 use Rattle.quantity_text.proofs.Pushed.{three_pushed}
@@ -11,5 +10,5 @@ unfolding cycle_facts
 returns c =
     on_ok_weaker c.push_text-2.result
     (λ e. three_pushed _ _ _ _ _ _ _ c.in_ok-push_text.ensures c.in_ok-push_tenths.ensures e
-    ∙ (λ i. c.args.out.now.items ++ (codes "cycle " ++ (tenths ((c.cycle_seconds.ensures.value ∙ ap (cycle_seconds c.args.artery.now) c.base.ensures) i) ++ codes " s"))))
+    ∙ (λ i. c.args.out.now.items ++ (codes "cycle " ++ (tenths (c.cycle_seconds.ensures.value i) ++ codes " s"))))
     c.push_text-2.ensures

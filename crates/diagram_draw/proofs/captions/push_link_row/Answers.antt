@@ -15,6 +15,6 @@ returns c =
     on_ok_weaker c.push_speed_words-2.result
     (λ e. three_listed _ _ _ _ _ _ _ c.in_ok-push_lengths_words.ensures c.in_ok-push_speed_words.ensures e
     ∙ (λ i. c.args.out.now.items ++ (words_text Number (pos (right i + 880)) (y i) (lengths_text (c.lengths_differ-both.ensures i) (c.distance-outbound.ensures.value i)
-    (c.distance-inbound.ensures.value i)) ++ (words_text Number (pos (right i + 1480)) (y i) (link_speed_text c.args.artery.now c.args.timing.now Outbound c.args.link)
-    ++ (words_text Number (pos (right i + 2060)) (y i) (link_speed_text c.args.artery.now c.args.timing.now Inbound c.args.link) ++ [])))))
+    (c.distance-inbound.ensures.value i)) ++ (words_text Number (pos (right i + 1480)) (y i) (link_speed_text c.args.artery.now c.args.base.now Outbound c.args.link)
+    ++ (words_text Number (pos (right i + 2060)) (y i) (link_speed_text c.args.artery.now c.args.base.now Inbound c.args.link) ++ [])))))
     c.push_speed_words-2.ensures

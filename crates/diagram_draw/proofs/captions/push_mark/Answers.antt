@@ -13,7 +13,8 @@ unfolding words_text
 returns c =
     let x = to_z-of_z w128 c.step_begin-x.result (search rules) ∙ c.step_begin-x.ensures in
     let y = to_z-of_z w128 c.mark_level-y.result (search rules) ∙ c.mark_level-y.ensures in
+    let ticks = rw c.base-base.ensures at c.step_ticks.ensures.value in
     on_ok_weaker c.push_words_end.result
     (λ e. three_pushed _ _ _ _ _ _ _ c.in_ok-push_words_opening.ensures c.in_ok-push_some_seconds.ensures e
-    ∙ (λ i. c.args.out.now.items ++ (words_opening Mark (x i) (y i) ++ ((seconds_text (c.base.ensures i) (c.step_ticks.ensures.value i) ++ codes " s") ++ codes "</text>\n"))))
+    ∙ (λ i. c.args.out.now.items ++ (words_opening Mark (x i) (y i) ++ ((seconds_text (c.base-base.ensures i) (ticks i) ++ codes " s") ++ codes "</text>\n"))))
     c.push_words_end.ensures

@@ -14,6 +14,6 @@ returns c =
     on_ok_weaker c.push_offset_words.result
     (λ e. three_listed _ _ _ _ _ _ _ c.in_ok-push_number_words.ensures c.in_ok-push_pattern_words.ensures e
     ∙ (λ i. c.args.out.now.items ++ (words_text Number (pos 330) (y i) (decimal c.args.signal)
-    ++ (words_text Number (pos (c.args.frame.left - 760)) (y i) (pattern_text c.args.artery.now c.args.timing.now c.args.signal)
-    ++ (words_text Number (pos (c.args.frame.left - 170)) (y i) (offset_text c.args.artery.now c.args.timing.now c.args.signal) ++ [])))))
+    ++ (words_text Number (pos (c.args.frame.left - 760)) (y i) (pattern_text c.args.artery.now c.args.base.now c.args.signal)
+    ++ (words_text Number (pos (c.args.frame.left - 170)) (y i) (offset_text c.args.artery.now c.args.base.now c.args.signal) ++ [])))))
     c.push_offset_words.ensures

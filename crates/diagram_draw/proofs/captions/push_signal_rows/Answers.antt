@@ -7,11 +7,11 @@ use Rattle.diagram_draw.proofs.captions.push_signal_rows.Goals as goal
 
 pub loop-signal-preserved : goal.loop-signal-preserved
 loop-signal-preserved c =
-    row_written_up caption_text c.args.out.now.items _ _ c.loop-signal.signal c.loop-signal.invariant.0 (signal_row c.args.frame c.args.artery.now c.args.timing.now)
+    row_written_up caption_text c.args.out.now.items _ _ c.loop-signal.signal c.loop-signal.invariant.0 (signal_row c.args.frame c.args.artery.now c.args.base.now)
     c.in_ok-push_signal_row.ensures c.loop-signal.invariant.1
 
 pub returns : goal.returns
 returns c =
-    let f = signal_row c.args.frame c.args.artery.now c.args.timing.now in
+    let f = signal_row c.args.frame c.args.artery.now c.args.base.now in
     c.loop-signal.invariant.1
     ∙ ends_up (λ n. c.args.out.now.items ++ captions_text (flat_map f (range_with_len 1 n))) _ _ _ c.loop-signal.auto.signal-end c.loop-signal-test.false c.count-signal-end.ensures.value

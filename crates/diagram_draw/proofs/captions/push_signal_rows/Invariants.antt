@@ -5,4 +5,4 @@ use Rattle.diagram_draw.specs.Captions.{signal_row}
 use Rattle.diagram_draw.proofs.captions.push_signal_rows.Given as goal
 
 abbrev pub invariant-loop-signal : goal.invariant-loop-signal
-invariant-loop-signal l = (1 ≤ l.signal) × (l.out.items ≡ l.fn.out.items ++ captions_text (flat_map (signal_row l.frame l.artery l.timing) (range_with_len 1 (l.signal - 1))))
+invariant-loop-signal l = (1 ≤ l.signal) × (l.out.items ≡ l.fn.out.items ++ captions_text (flat_map (signal_row l.frame l.artery l.base) (range_with_len 1 (l.signal - 1))))

@@ -1,6 +1,5 @@
 use Rattle.std.proofs.Common.{◌++◌, ◌∙◌, codes}
 use Rattle.std.proofs.lemmas.Result.{on_ok_weaker}
-use Rattle.timing_words.specs.Ways.{dir_word}
 use Rattle.diagram_draw.specs.Captions.{width_facts}
 use Rattle.quantity_text.proofs.Pushed.{three_pushed}
 use Rattle.diagram_draw.proofs.captions.push_some_band.Goals as goal

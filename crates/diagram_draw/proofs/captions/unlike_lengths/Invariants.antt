@@ -1,4 +1,4 @@
-use Rattle.std.proofs.Common.{◌≡◌, ◌-◌, ◌*◌, ◌≤◌}
+use Rattle.std.proofs.Common.{◌≡◌, ◌-◌, ◌≤◌}
 use Rattle.diagram_draw.specs.Captions.{unlike_lengths}
 use Rattle.diagram_draw.proofs.captions.unlike_lengths.Given as goal
 

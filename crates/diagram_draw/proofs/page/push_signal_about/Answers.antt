@@ -14,6 +14,6 @@ returns c =
     on_ok_weaker c.push_text-2.result
     (λ e. five_pushed _ _ _ _ _ _ _ _ _ _ _ c.in_ok-push_signal_opening.ensures c.in_ok-push_escaped.ensures c.in_ok-push_text.ensures c.in_ok-push_offset.ensures e
     ∙ (λ i. c.args.out.now.items ++ ((codes "; signal " ++ (decimal c.args.signal ++ codes ", "))
-    ++ (escaped (name i) ++ (codes ", offset " ++ (offset_text c.args.artery.now c.args.timing.now c.args.signal ++ codes " s")))))
+    ++ (escaped (name i) ++ (codes ", offset " ++ (offset_text c.args.artery.now c.args.base.now c.args.signal ++ codes " s")))))
     ∙ ap (λ (w : List ℕ). c.args.out.now.items ++ (codes "; signal " ++ w)) (append_assoc (decimal c.args.signal) (codes ", ") _))
     c.push_text-2.ensures

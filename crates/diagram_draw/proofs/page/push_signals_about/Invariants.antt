@@ -4,4 +4,4 @@ use Rattle.diagram_draw.specs.Pages.{signal_about}
 use Rattle.diagram_draw.proofs.page.push_signals_about.Given as goal
 
 abbrev pub invariant-loop-signal : goal.invariant-loop-signal
-invariant-loop-signal l = (1 ≤ l.signal) × (l.out.items ≡ l.fn.out.items ++ flat_map (signal_about l.artery l.timing) (range_with_len 1 (l.signal - 1)))
+invariant-loop-signal l = (1 ≤ l.signal) × (l.out.items ≡ l.fn.out.items ++ flat_map (signal_about l.artery l.base) (range_with_len 1 (l.signal - 1)))
