@@ -2,14 +2,13 @@
 use Rattle.std.proofs.Common.{◌≡◌, ℕ, ℤ, pos, negsuc, ◌+◌, ◌*◌, ◌-◌, ◌<◌, ◌≤◌, ◌≤ℤ◌, unsigned_abs, refl, sym, ◌∙◌, ap, arith, mul-pos}
 use Rattle.std.proofs.lemmas.Int.{ints}
 use borrow.Author.Differences.{up, down}
-use Rattle.rational_theory.specs.Rational.{ℚ, whole, over, ◌*ℚ◌}
+use Rattle.rational_theory.specs.Rational.{ℚ, whole, over}
 use Rattle.rational_theory.proofs.Arithmetic.{IsRatio, over_ratio, same_ratio}
 use Rattle.rational_theory.proofs.Order.{*ℚ_cancel, times_den}
 use Rattle.progression.specs.Speeds.{number}
 use Rattle.progression.specs.Street.{Street, HasSignal, red_parts}
 use Rattle.progression.specs.Green.{red_ticks}
-use Rattle.progression.specs.TimingRecord.{TimingRecord, base}
-use Rattle.progression.specs.BaseRecord.{cycle, run}
+use Rattle.progression.specs.BaseRecord.{BaseRecord, cycle, run}
 use Rattle.progression.specs.declared.parts.Dir.{Dir}
 use Rattle.artery_model.specs.Valid.{IsValid}
 use Rattle.time_space.proofs.FinerGrids.{red_bounds}
@@ -40,30 +39,30 @@ not_zero n h e = let f : pos n ≡ pos 0 = ap (λ (q : ℚ). q.num) e in omega (
 green_ticks : (m p r u : ℕ) → m + r ≡ p → m * u ≡ p * u - r * u
 green_ticks m p r u e = let s : p * u ≡ m * u + r * u = ap (λ n. n * u) (sym e) ∙ omega arith in omega (arith, s)
 
--- ---- a timing of a street
-module _ (a : Street) (t : TimingRecord) (valid : IsValid a) (grid : 1 ≤ t.grid) where
-  parts_are : (n : ℕ) → parts_seconds a n (cycle_seconds a (base t)) ≡ seconds (base t) (n * t.unit)
+-- ---- a base of a street
+module _ (a : Street) (b : BaseRecord) (valid : IsValid a) (grid : 1 ≤ b.grid) where
+  parts_are : (n : ℕ) → parts_seconds a n (cycle_seconds a b) ≡ seconds b (n * b.unit)
   parts_are n =
-      let c = cycle_seconds a (base t) in
+      let c = cycle_seconds a b in
       let few = valid.least_parts in
-      parts_of c n (unsigned_abs c.num) a.head.parts t.unit t.grid (omega (arith, few)) (omega (arith, grid))
-      (crossed c (unsigned_abs c.num) (cycle a (base t)) t.grid (natural c.num (over_least (cycle a (base t)) t.grid)) (over_ratio (pos (cycle a (base t))) t.grid (omega (arith, grid))))
+      parts_of c n (unsigned_abs c.num) a.head.parts b.unit b.grid (omega (arith, few)) (omega (arith, grid))
+      (crossed c (unsigned_abs c.num) (cycle a b) b.grid (natural c.num (over_least (cycle a b) b.grid)) (over_ratio (pos (cycle a b)) b.grid (omega (arith, grid))))
 
-  run_is : (d : Dir) (i : ℕ) (x : ℚ) → Takes t d i x → x ≡ seconds (base t) (run (base t) d i)
-  run_is d i x e = sym (*ℚ_cancel (seconds (base t) (run (base t) d i)) x (number t.grid) (not_zero t.grid grid) (times_den (pos (run (base t) d i)) t.grid (omega (arith, grid)) ∙ e))
+  run_is : (d : Dir) (i : ℕ) (x : ℚ) → Takes b d i x → x ≡ seconds b (run b d i)
+  run_is d i x e = sym (*ℚ_cancel (seconds b (run b d i)) x (number b.grid) (not_zero b.grid grid) (times_den (pos (run b d i)) b.grid (omega (arith, grid)) ∙ e))
 
-  green_is : (d : Dir) (i : ℕ) → HasSignal a i → green_parts a d i * t.unit ≡ cycle a (base t) - red_ticks a (base t) d i
+  green_is : (d : Dir) (i : ℕ) → HasSignal a i → green_parts a d i * b.unit ≡ cycle a b - red_ticks a b d i
   green_is d i l =
       let r = red_bounds a valid d i (omega (arith, l.0, l.1)) in
-      green_ticks (green_parts a d i) a.head.parts (red_parts a d i) t.unit (omega (arith, r.1))
+      green_ticks (green_parts a d i) a.head.parts (red_parts a d i) b.unit (omega (arith, r.1))
 
-  agree : SecondsAgree a t
+  agree : SecondsAgree a b
   agree = record {
     parts = λ n. ap tenths (parts_are n);
-    green = λ d i l. ap tenths (parts_are (green_parts a d i)) ∙ ap (λ n. tenths (seconds (base t) n)) (green_is d i l);
+    green = λ d i l. ap tenths (parts_are (green_parts a d i)) ∙ ap (λ n. tenths (seconds b n)) (green_is d i l);
     fastest = λ d i e. ap tenths (run_is d i _ e);
     slowest = λ d i e. ap tenths (run_is d i _ e);
   }
 
 pub seconds_agree : AllSecondsAgree
-seconds_agree a t valid grid = agree a t valid grid
+seconds_agree a b valid grid = agree a b valid grid

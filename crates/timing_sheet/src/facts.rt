@@ -8,17 +8,17 @@ ghost use Rattle.progression.specs.TimingRecord.{base};
 use artery_model::{Artery, Dir};
 use narrow_fraction::Memory;
 use quantity_text::push_text;
-use time_space::Timing;
+use time_space::{Base, Timing};
 use timing_measures::cycle_seconds;
 use timing_words::{has_band, push_percent, push_seconds, push_tenths};
 
 /// Writes the line of the cycle.
 #[tactic(auto, unfolding(crate::specs::Facts::cycle_line))]
-fn push_cycle_line(out: &mut Vec<u8>, artery: &Artery, timing: &Timing) -> Result<(), Memory>
-    ensures { OnOk result (out.new.items ≡ out.old.items ++ cycle_line artery.now timing.now) }
+fn push_cycle_line(out: &mut Vec<u8>, artery: &Artery, base: &Base) -> Result<(), Memory>
+    ensures { OnOk result (out.new.items ≡ out.old.items ++ cycle_line artery.now base.now) }
 {
     push_text(out, "cycle ")?;
-    push_tenths(out, cycle_seconds(artery, timing.base()))?;
+    push_tenths(out, cycle_seconds(artery, base))?;
     push_text(out, " s\n")
 }
 
@@ -82,7 +82,7 @@ pub fn push_facts(out: &mut Vec<u8>, artery: &Artery, timing: &Timing) -> Result
     requires { IsFor artery.now (base timing.now) }
     ensures { OnOk result (out.new.items ≡ out.old.items ++ facts_text artery.now timing.now) }
 {
-    push_cycle_line(out, artery, timing)?;
+    push_cycle_line(out, artery, timing.base())?;
     push_band_line(out, artery, timing, Dir::Outbound)?;
     push_band_line(out, artery, timing, Dir::Inbound)
 }

@@ -17,7 +17,7 @@ use description_reader::Reference;
 use narrow_fraction::Memory;
 use std::alloc::Global;
 use table_text::Record;
-use time_space::Timing;
+use time_space::{Base, Timing};
 use timing_measures::signal_name;
 use timing_words::has_band;
 
@@ -27,16 +27,16 @@ fn push_names(
     alloc: Global,
     record: &mut Record,
     artery: &Artery,
-    timing: &Timing,
+    base: &Base,
     signal: u32,
 ) -> Result<(), Memory>
-    requires shape { IsFor artery.now (base timing.now) }
+    requires shape { IsFor artery.now base.now }
     requires signal { HasSignal artery.now signal }
-    ensures { OnOk result (record.new ≡ record.old ++ name_fields artery.now timing.now signal) }
+    ensures { OnOk result (record.new ≡ record.old ++ name_fields artery.now base.now signal) }
 {
     push_whole(alloc, record, signal)?;
     record.push_name(alloc, signal_name(artery, signal).as_bytes())?;
-    push_pattern_cell(alloc, record, artery, timing, signal)
+    push_pattern_cell(alloc, record, artery, base, signal)
 }
 
 /// Adds its offset and its common red.
@@ -45,17 +45,17 @@ fn push_times(
     alloc: Global,
     record: &mut Record,
     artery: &Artery,
-    timing: &Timing,
+    base: &Base,
     reference: Reference,
     signal: u32,
 ) -> Result<(), Memory>
-    requires shape { IsFor artery.now (base timing.now) }
+    requires shape { IsFor artery.now base.now }
     requires signal { HasSignal artery.now signal }
-    ensures { OnOk result (record.new ≡ record.old ++ time_fields artery.now timing.now reference signal) }
+    ensures { OnOk result (record.new ≡ record.old ++ time_fields artery.now base.now reference signal) }
 {
-    let offset = offset_ticks(artery, timing, reference, signal);
-    push_moment_cell(alloc, record, artery, timing, offset)?;
-    push_parts(alloc, record, timing, artery.common_red(signal))
+    let offset = offset_ticks(artery, base, reference, signal);
+    push_moment_cell(alloc, record, artery, base, offset)?;
+    push_parts(alloc, record, base, artery.common_red(signal))
 }
 
 /// Adds its left turns.
@@ -64,16 +64,16 @@ fn push_turns(
     alloc: Global,
     record: &mut Record,
     artery: &Artery,
-    timing: &Timing,
+    base: &Base,
     signal: u32,
 ) -> Result<(), Memory>
     requires signal { HasSignal artery.now signal }
-    ensures { OnOk result (record.new ≡ record.old ++ turn_fields artery.now timing.now signal) }
+    ensures { OnOk result (record.new ≡ record.old ++ turn_fields artery.now base.now signal) }
 {
     let outbound = artery.left_against(Dir::Inbound, signal);
-    push_parts(alloc, record, timing, outbound)?;
+    push_parts(alloc, record, base, outbound)?;
     let inbound = artery.left_against(Dir::Outbound, signal);
-    push_parts(alloc, record, timing, inbound)
+    push_parts(alloc, record, base, inbound)
 }
 
 /// Adds the green of each direction.
@@ -82,34 +82,34 @@ fn push_greens(
     alloc: Global,
     record: &mut Record,
     artery: &Artery,
-    timing: &Timing,
+    base: &Base,
     signal: u32,
 ) -> Result<(), Memory>
     requires signal { HasSignal artery.now signal }
-    ensures { OnOk result (record.new ≡ record.old ++ green_fields artery.now timing.now signal) }
+    ensures { OnOk result (record.new ≡ record.old ++ green_fields artery.now base.now signal) }
 {
-    push_green(alloc, record, artery, timing, Dir::Outbound, signal)?;
-    push_green(alloc, record, artery, timing, Dir::Inbound, signal)
+    push_green(alloc, record, artery, base, Dir::Outbound, signal)?;
+    push_green(alloc, record, artery, base, Dir::Inbound, signal)
 }
 
-/// Adds what doesn't depend on the bands.
+/// Adds what the base tells of a signal.
 #[tactic(auto, unfolding(crate::specs::Records::signal_fields))]
 fn push_signal(
     alloc: Global,
     record: &mut Record,
     artery: &Artery,
-    timing: &Timing,
+    base: &Base,
     reference: Reference,
     signal: u32,
 ) -> Result<(), Memory>
-    requires shape { IsFor artery.now (base timing.now) }
+    requires shape { IsFor artery.now base.now }
     requires signal { HasSignal artery.now signal }
-    ensures { OnOk result (record.new ≡ record.old ++ signal_fields artery.now timing.now reference signal) }
+    ensures { OnOk result (record.new ≡ record.old ++ signal_fields artery.now base.now reference signal) }
 {
-    push_names(alloc, record, artery, timing, signal)?;
-    push_times(alloc, record, artery, timing, reference, signal)?;
-    push_turns(alloc, record, artery, timing, signal)?;
-    push_greens(alloc, record, artery, timing, signal)
+    push_names(alloc, record, artery, base, signal)?;
+    push_times(alloc, record, artery, base, reference, signal)?;
+    push_turns(alloc, record, artery, base, signal)?;
+    push_greens(alloc, record, artery, base, signal)
 }
 
 /// Adds when a direction's band begins and ends at a signal, or empty fields where there is none.
@@ -132,9 +132,9 @@ fn push_window(
         return push_empty(record);
     }
     let first = first_ticks(artery, timing, reference, dir, signal);
-    push_moment_cell(alloc, record, artery, timing, first)?;
+    push_moment_cell(alloc, record, artery, timing.base(), first)?;
     let last = last_ticks(artery, timing, reference, dir, signal);
-    push_moment_cell(alloc, record, artery, timing, last)
+    push_moment_cell(alloc, record, artery, timing.base(), last)
 }
 
 /// Adds the windows of both bands.
@@ -177,17 +177,17 @@ fn push_way(
     alloc: Global,
     record: &mut Record,
     artery: &Artery,
-    timing: &Timing,
+    base: &Base,
     dir: Dir,
     link: u32,
 ) -> Result<(), Memory>
-    requires shape { IsFor artery.now (base timing.now) }
+    requires shape { IsFor artery.now base.now }
     requires link { HasLink artery.now link }
-    ensures { OnOk result (record.new ≡ record.old ++ way_fields artery.now timing.now dir link) }
+    ensures { OnOk result (record.new ≡ record.old ++ way_fields artery.now base.now dir link) }
 {
     push_whole(alloc, record, artery.distance(dir, link))?;
-    push_ticks(alloc, record, timing, timing.run(dir, link))?;
-    push_speed(alloc, record, artery, timing, dir, link)
+    push_ticks(alloc, record, base, base.run(dir, link))?;
+    push_speed(alloc, record, artery, base, dir, link)
 }
 
 /// Adds the fields of a link in a direction, all empty.
@@ -213,16 +213,16 @@ fn push_link(
     alloc: Global,
     record: &mut Record,
     artery: &Artery,
-    timing: &Timing,
+    base: &Base,
     signal: u32,
 ) -> Result<(), Memory>
-    requires shape { IsFor artery.now (base timing.now) }
+    requires shape { IsFor artery.now base.now }
     requires signal { HasSignal artery.now signal }
-    ensures { OnOk result (record.new ≡ record.old ++ link_fields artery.now timing.now signal) }
+    ensures { OnOk result (record.new ≡ record.old ++ link_fields artery.now base.now signal) }
 {
     if signal < artery.count() {
-        push_way(alloc, record, artery, timing, Dir::Outbound, signal)?;
-        push_way(alloc, record, artery, timing, Dir::Inbound, signal)
+        push_way(alloc, record, artery, base, Dir::Outbound, signal)?;
+        push_way(alloc, record, artery, base, Dir::Inbound, signal)
     } else {
         push_no_link(record)
     }
@@ -242,8 +242,8 @@ pub fn record_of(
     ensures { IfOk result (λ made. made ≡ record_of artery.now timing.now reference signal) }
 {
     let mut record = Record::new(alloc);
-    push_signal(alloc, &mut record, artery, timing, reference, signal)?;
+    push_signal(alloc, &mut record, artery, timing.base(), reference, signal)?;
     push_windows(alloc, &mut record, artery, timing, reference, signal)?;
-    push_link(alloc, &mut record, artery, timing, signal)?;
+    push_link(alloc, &mut record, artery, timing.base(), signal)?;
     Ok(record)
 }

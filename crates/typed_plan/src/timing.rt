@@ -113,7 +113,7 @@ fn put_pairs(artery: &Artery, cycle: u128, found: FoundPairs) -> FoundPairs
 }
 
 /// The timing of a base with the pairs that are put of the widest ones.
-fn with_pairs(artery: &Artery, on: Base, found: FoundPairs) -> Measured
+fn put_on_base(artery: &Artery, on: Base, found: FoundPairs) -> Measured
     requires cycle { cycle artery.now on < 2 ^ 80 }
     requires outbound { IsBelow (cycle artery.now on) found.outbound }
     requires inbound { IsBelow (cycle artery.now on) found.inbound }
@@ -147,7 +147,7 @@ fn timed(alloc: Global, artery: &Artery, plan: &TypedPlan, grid: u128) -> Result
     let on = least_base(alloc, artery, plan, grid)?;
     let outbound = widest_on(artery, &on, Dir::Outbound);
     let inbound = widest_on(artery, &on, Dir::Inbound);
-    Ok(with_pairs(artery, on, FoundPairs { outbound, inbound }))
+    Ok(put_on_base(artery, on, FoundPairs { outbound, inbound }))
 }
 
 /// The timing of a plan on an artery.
