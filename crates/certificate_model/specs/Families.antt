@@ -64,10 +64,6 @@ pub record IsNamedIn (table : Table) (row : RowId) : Type 0 where
 unfoldable pub ordinary : Table
 ordinary = names_of rows.families
 
--- the families of one row: the limits of the cycle, the ratio, least bands and equal bands
-abbrev pub is_lone : ℕ → Bool
-is_lone family = is_lone_in ordinary family
-
 abbrev pub IsNamed : RowId → Type 0
 IsNamed row = IsNamedIn ordinary row
 

@@ -1,7 +1,7 @@
 //! The families of rows by name.
 
 ghost use Rattle.std.specs.Prelude.{◌≡◌};
-ghost use Rattle.certificate_model.specs.Families.{table_of, family_name_in, is_lone_in, is_lone};
+ghost use Rattle.certificate_model.specs.Families.{table_of, family_name_in, is_lone_in};
 
 /// A family of rows as texts name it.
 #[derive(Clone, Copy)]
@@ -11,93 +11,119 @@ pub struct FamilyName {
     pub is_lone: bool,
 }
 
-/// The families of ordinary certificates, by their numbers from 1 on. One row alone have the limits of the cycle, the
-/// ratio, least bands and equal bands.
+// An artery's families, of which tables of other kinds of certificates are made too. One row alone have the limits of the cycle, the
+// ratio, least bands and equal bands.
+
+pub const WAIT_OUT: FamilyName = FamilyName {
+    text: "wout",
+    is_lone: false,
+};
+
+pub const WAIT_IN: FamilyName = FamilyName {
+    text: "win",
+    is_lone: false,
+};
+
+pub const FAST_OUT: FamilyName = FamilyName {
+    text: "fast_out",
+    is_lone: false,
+};
+
+pub const FAST_IN: FamilyName = FamilyName {
+    text: "fast_in",
+    is_lone: false,
+};
+
+pub const SLOW_OUT: FamilyName = FamilyName {
+    text: "slow_out",
+    is_lone: false,
+};
+
+pub const SLOW_IN: FamilyName = FamilyName {
+    text: "slow_in",
+    is_lone: false,
+};
+
+pub const RISE_OUT: FamilyName = FamilyName {
+    text: "rise_out",
+    is_lone: false,
+};
+
+pub const RISE_IN: FamilyName = FamilyName {
+    text: "rise_in",
+    is_lone: false,
+};
+
+pub const DROP_OUT: FamilyName = FamilyName {
+    text: "drop_out",
+    is_lone: false,
+};
+
+pub const DROP_IN: FamilyName = FamilyName {
+    text: "drop_in",
+    is_lone: false,
+};
+
+pub const CYCLE_LOW: FamilyName = FamilyName {
+    text: "cycle_low",
+    is_lone: true,
+};
+
+pub const CYCLE_HIGH: FamilyName = FamilyName {
+    text: "cycle_high",
+    is_lone: true,
+};
+
+pub const RATIO: FamilyName = FamilyName {
+    text: "ratio",
+    is_lone: true,
+};
+
+pub const LOOP_LOW: FamilyName = FamilyName {
+    text: "loop_lo",
+    is_lone: false,
+};
+
+pub const LOOP_HIGH: FamilyName = FamilyName {
+    text: "loop_hi",
+    is_lone: false,
+};
+
+pub const TURN_LOW: FamilyName = FamilyName {
+    text: "turn_lo",
+    is_lone: false,
+};
+
+pub const TURN_HIGH: FamilyName = FamilyName {
+    text: "turn_hi",
+    is_lone: false,
+};
+
+pub const LEAST_OUT: FamilyName = FamilyName {
+    text: "least_out",
+    is_lone: true,
+};
+
+pub const LEAST_IN: FamilyName = FamilyName {
+    text: "least_in",
+    is_lone: true,
+};
+
+pub const EQUAL_LOW: FamilyName = FamilyName {
+    text: "equal_lo",
+    is_lone: true,
+};
+
+pub const EQUAL_HIGH: FamilyName = FamilyName {
+    text: "equal_hi",
+    is_lone: true,
+};
+
+/// The families of ordinary certificates, by their numbers from 1 on.
 pub const FAMILIES: [FamilyName; 21] = [
-    FamilyName {
-        text: "wout",
-        is_lone: false,
-    },
-    FamilyName {
-        text: "win",
-        is_lone: false,
-    },
-    FamilyName {
-        text: "fast_out",
-        is_lone: false,
-    },
-    FamilyName {
-        text: "fast_in",
-        is_lone: false,
-    },
-    FamilyName {
-        text: "slow_out",
-        is_lone: false,
-    },
-    FamilyName {
-        text: "slow_in",
-        is_lone: false,
-    },
-    FamilyName {
-        text: "rise_out",
-        is_lone: false,
-    },
-    FamilyName {
-        text: "rise_in",
-        is_lone: false,
-    },
-    FamilyName {
-        text: "drop_out",
-        is_lone: false,
-    },
-    FamilyName {
-        text: "drop_in",
-        is_lone: false,
-    },
-    FamilyName {
-        text: "cycle_low",
-        is_lone: true,
-    },
-    FamilyName {
-        text: "cycle_high",
-        is_lone: true,
-    },
-    FamilyName {
-        text: "ratio",
-        is_lone: true,
-    },
-    FamilyName {
-        text: "loop_lo",
-        is_lone: false,
-    },
-    FamilyName {
-        text: "loop_hi",
-        is_lone: false,
-    },
-    FamilyName {
-        text: "turn_lo",
-        is_lone: false,
-    },
-    FamilyName {
-        text: "turn_hi",
-        is_lone: false,
-    },
-    FamilyName {
-        text: "least_out",
-        is_lone: true,
-    },
-    FamilyName {
-        text: "least_in",
-        is_lone: true,
-    },
-    FamilyName {
-        text: "equal_lo",
-        is_lone: true,
-    },
-    FamilyName {
-        text: "equal_hi",
-        is_lone: true,
-    },
+    WAIT_OUT, WAIT_IN, FAST_OUT, FAST_IN, SLOW_OUT, SLOW_IN, RISE_OUT, RISE_IN, DROP_OUT, DROP_IN,
+    CYCLE_LOW, CYCLE_HIGH, RATIO, LOOP_LOW, LOOP_HIGH, TURN_LOW, TURN_HIGH, LEAST_OUT, LEAST_IN,
+    EQUAL_LOW, EQUAL_HIGH,
 ];
 
 /// The name of a family of a table, by its number from 1 on. The number 0 gives the first name too, and one past the last
@@ -122,12 +148,4 @@ pub fn is_lone_in(names: &[FamilyName], family: u8) -> bool
         Some(name) => name.is_lone,
         None => false,
     }
-}
-
-/// Whether a family has one row alone, which needs no index: the limits of the cycle, the ratio, least bands and equal bands.
-#[tactic(auto, unfolding(crate::specs::Families::ordinary))]
-pub fn is_lone(family: u8) -> bool
-    ensures { result ≡ is_lone family }
-{
-    is_lone_in(&FAMILIES, family)
 }

@@ -12,4 +12,8 @@ mod certificate;
 mod family;
 
 pub use certificate::{CertNode, Certificate, Claim};
-pub use family::{FAMILIES, FamilyName, family_name_in, is_lone, is_lone_in};
+pub use family::{
+    CYCLE_HIGH, CYCLE_LOW, DROP_IN, DROP_OUT, EQUAL_HIGH, EQUAL_LOW, FAMILIES, FAST_IN, FAST_OUT,
+    FamilyName, LEAST_IN, LEAST_OUT, LOOP_HIGH, LOOP_LOW, RATIO, RISE_IN, RISE_OUT, SLOW_IN,
+    SLOW_OUT, TURN_HIGH, TURN_LOW, WAIT_IN, WAIT_OUT, family_name_in, is_lone_in,
+};

@@ -4,94 +4,36 @@ ghost use Rattle.std.specs.Prelude.{◌≡◌, ◌<◌, ◌^◌, length};
 ghost use Rattle.certificate_model.specs.Families.{table_of};
 ghost use Rattle.link_proof.specs.LinkFamilies.{links};
 
+use certificate_model::{
+    CYCLE_HIGH, CYCLE_LOW, DROP_IN, DROP_OUT, EQUAL_HIGH, EQUAL_LOW, FAST_IN, FAST_OUT, LEAST_IN,
+    LEAST_OUT, LOOP_HIGH, LOOP_LOW, RATIO, RISE_IN, RISE_OUT, SLOW_IN, SLOW_OUT, TURN_HIGH,
+    TURN_LOW, WAIT_IN, WAIT_OUT,
+};
 use plan_text::FamilyName;
 
 /// Those of an artery, and those of links, which have a row for each link and are numbered on from an artery's last.
 const LINK_FAMILIES: [FamilyName; 30] = [
-    FamilyName {
-        text: "wout",
-        is_lone: false,
-    },
-    FamilyName {
-        text: "win",
-        is_lone: false,
-    },
-    FamilyName {
-        text: "fast_out",
-        is_lone: false,
-    },
-    FamilyName {
-        text: "fast_in",
-        is_lone: false,
-    },
-    FamilyName {
-        text: "slow_out",
-        is_lone: false,
-    },
-    FamilyName {
-        text: "slow_in",
-        is_lone: false,
-    },
-    FamilyName {
-        text: "rise_out",
-        is_lone: false,
-    },
-    FamilyName {
-        text: "rise_in",
-        is_lone: false,
-    },
-    FamilyName {
-        text: "drop_out",
-        is_lone: false,
-    },
-    FamilyName {
-        text: "drop_in",
-        is_lone: false,
-    },
-    FamilyName {
-        text: "cycle_low",
-        is_lone: true,
-    },
-    FamilyName {
-        text: "cycle_high",
-        is_lone: true,
-    },
-    FamilyName {
-        text: "ratio",
-        is_lone: true,
-    },
-    FamilyName {
-        text: "loop_lo",
-        is_lone: false,
-    },
-    FamilyName {
-        text: "loop_hi",
-        is_lone: false,
-    },
-    FamilyName {
-        text: "turn_lo",
-        is_lone: false,
-    },
-    FamilyName {
-        text: "turn_hi",
-        is_lone: false,
-    },
-    FamilyName {
-        text: "least_out",
-        is_lone: true,
-    },
-    FamilyName {
-        text: "least_in",
-        is_lone: true,
-    },
-    FamilyName {
-        text: "equal_lo",
-        is_lone: true,
-    },
-    FamilyName {
-        text: "equal_hi",
-        is_lone: true,
-    },
+    WAIT_OUT,
+    WAIT_IN,
+    FAST_OUT,
+    FAST_IN,
+    SLOW_OUT,
+    SLOW_IN,
+    RISE_OUT,
+    RISE_IN,
+    DROP_OUT,
+    DROP_IN,
+    CYCLE_LOW,
+    CYCLE_HIGH,
+    RATIO,
+    LOOP_LOW,
+    LOOP_HIGH,
+    TURN_LOW,
+    TURN_HIGH,
+    LEAST_OUT,
+    LEAST_IN,
+    EQUAL_LOW,
+    EQUAL_HIGH,
     FamilyName {
         text: "near_out_a",
         is_lone: false,

@@ -54,7 +54,7 @@ mod writing;
 pub use cert_reading::{headed_at, read_certificate};
 pub use cert_writing::{write_certificate, write_named};
 pub use certificate_model::{
-    CertNode, Certificate, Claim, FAMILIES, FamilyName, family_name_in, is_lone, is_lone_in,
+    CertNode, Certificate, Claim, FAMILIES, FamilyName, family_name_in, is_lone_in,
 };
 pub use claim::ClaimParts;
 pub use divisor_law::law_divisor_rule;
