@@ -29,20 +29,20 @@ use Rattle.run_commands.specs.Half.{TellsPlan, HalfFinds}
 use Rattle.run_inputs.specs.declared.found.Found.{Found}
 use Rattle.run_inputs.specs.declared.cause.Cause.{Cause}
 
-half_found : (a : Street) (t plan : TimingRecord) (x : Found) → IsBase a (base t) → IsReady a t → IsHalfCycleBest a t plan
-    → TellsPlan a plan x.cause x.lines.items (bytes_of x) → HalfFinds a t x.cause x.lines.items (bytes_of x)
-half_found a t plan x base ready best h =
+half_found : (a : Street) (t made : TimingRecord) (x : Found) → IsBase a (base t) → IsReady a t → IsHalfCycleBest a t made
+    → TellsPlan a made x.cause x.lines.items (bytes_of x) → HalfFinds a t x.cause x.lines.items (bytes_of x)
+half_found a t made x base ready best h =
     subst (λ (c : Cause). HalfFinds a t c x.lines.items (bytes_of x)) (sym h.cause_is)
     (record {
       base = base;
       ready = ready;
-      found = inr (timing_text plan, h.put_is, record { plan = plan; best = best; lines_are = h.lines_are; written = refl; read_back = h.read_back });
+      found = inr (timing_text made, h.put_is, record { made = made; best = best; lines_are = h.lines_are; written = refl; read_back = h.read_back });
     })
 
-pub half_told : (a : Street) (t plan : TimingRecord) (r : Result Found Memory) → IsBase a (base t) → IsReady a t → IsHalfCycleBest a t plan
-    → IfOk r (λ x. TellsPlan a plan x.cause x.lines.items (bytes_of x)) → IfOk r (λ x. HalfFinds a t x.cause x.lines.items (bytes_of x))
-half_told a t plan (Ok x) base ready best h = half_found a t plan x base ready best h
-half_told a t plan (Err m) base ready best h = tt
+pub half_told : (a : Street) (t made : TimingRecord) (r : Result Found Memory) → IsBase a (base t) → IsReady a t → IsHalfCycleBest a t made
+    → IfOk r (λ x. TellsPlan a made x.cause x.lines.items (bytes_of x)) → IfOk r (λ x. HalfFinds a t x.cause x.lines.items (bytes_of x))
+half_told a t made (Ok x) base ready best h = half_found a t made x base ready best h
+half_told a t made (Err m) base ready best h = tt
 
 -- ---- round
 -- what a claim bounds

@@ -47,18 +47,18 @@ end_line (end.TooFine n) = ticks_line n
 -- ---- the answer
 -- the widest equal bands over all offsets, and the text of the timing that has them, which is read back
 pub record IsHalfPlan (a : Street) (t : TimingRecord) (lines text : List ℕ) : Type 0 where
-  pub plan : TimingRecord
-  pub best : IsHalfCycleBest a t plan
-  pub lines_are : lines ≡ half_lines a plan
-  pub written : text ≡ timing_text plan
-  pub read_back : timing_of text ≡ Ok plan
+  pub made : TimingRecord
+  pub best : IsHalfCycleBest a t made
+  pub lines_are : lines ≡ half_lines a made
+  pub written : text ≡ timing_text made
+  pub read_back : timing_of text ≡ Ok made
 
 -- its lines, and its text, which is put
-pub record TellsPlan (a : Street) (plan : TimingRecord) (c : Cause) (lines : List ℕ) (put : Option (List ℕ)) : Type 0 where
+pub record TellsPlan (a : Street) (made : TimingRecord) (c : Cause) (lines : List ℕ) (put : Option (List ℕ)) : Type 0 where
   pub cause_is : c ≡ cause.Done
-  pub lines_are : lines ≡ half_lines a plan
-  pub put_is : put ≡ Some (timing_text plan)
-  pub read_back : timing_of (timing_text plan) ≡ Ok plan
+  pub lines_are : lines ≡ half_lines a made
+  pub put_is : put ≡ Some (timing_text made)
+  pub read_back : timing_of (timing_text made) ≡ Ok made
 
 -- no offsets on any grid have equal bands, and nothing is put
 pub record HasNoHalfPlan (a : Street) (t : TimingRecord) (lines : List ℕ) (put : Option (List ℕ)) : Type 0 where

@@ -19,7 +19,7 @@ use narrow_fraction::Memory;
 use quantity_text::push_text;
 use run_inputs::{Cause, Found, told};
 use std::alloc::Global;
-use time_space::{Timing, cycle};
+use time_space::Timing;
 use timing_measures::quotient;
 
 /// Writes the line of a direction without a band.
@@ -53,7 +53,7 @@ fn push_band(
     ensures { OnOk result (out.new.items ≡ out.old.items ++ widest_line artery.now timing.now dir (Some widest)) }
 {
     push_text(out, band_name(dir))?;
-    push_measure(out, quotient(widest.band, cycle(artery, timing)), 6)?;
+    push_measure(out, quotient(widest.band, timing.base().cycle(artery)), 6)?;
     push_number_line(out, " first ", widest.first)
 }
 

@@ -21,7 +21,7 @@ use plan_text::write_timing;
 use quantity_text::push_text;
 use run_inputs::{Cause, Found, push_numbered, told};
 use std::alloc::Global;
-use time_space::{Timing, cycle};
+use time_space::Timing;
 use timing_measures::quotient;
 
 fn phase_name(is_later: bool) -> &'static str
@@ -31,39 +31,44 @@ fn phase_name(is_later: bool) -> &'static str
 }
 
 /// Writes the line of a signal: whether its red is centred with that of signal 1, or half a cycle later.
-fn push_phase(out: &mut Vec<u8>, artery: &Artery, plan: &Timing, signal: u32) -> Result<(), Memory>
-    requires shape { IsFor artery.now (base plan.now) }
+fn push_phase(
+    out: &mut Vec<u8>,
+    artery: &Artery,
+    timing: &Timing,
+    signal: u32,
+) -> Result<(), Memory>
+    requires shape { IsFor artery.now (base timing.now) }
     requires signal { HasSignal artery.now signal }
-    ensures { OnOk result (out.new.items ≡ out.old.items ++ phase_line artery.now plan.now signal) }
+    ensures { OnOk result (out.new.items ≡ out.old.items ++ phase_line artery.now timing.now signal) }
 {
     push_numbered(out, "signal ", signal as u128)?;
     push_text(out, " half ")?;
-    push_text(out, phase_name(half_of(artery, plan, signal)))?;
+    push_text(out, phase_name(half_of(artery, timing, signal)))?;
     push_text(out, "\n")
 }
 
 /// Writes the lines of the signals, from the first on.
 #[tactic(auto, using(crate::proofs::Pushed::pushed_next))]
-fn push_phases(out: &mut Vec<u8>, artery: &Artery, plan: &Timing) -> Result<(), Memory>
-    requires { IsFor artery.now (base plan.now) }
-    ensures { OnOk result (out.new.items ≡ out.old.items ++ phase_lines artery.now plan.now) }
+fn push_phases(out: &mut Vec<u8>, artery: &Artery, timing: &Timing) -> Result<(), Memory>
+    requires { IsFor artery.now (base timing.now) }
+    ensures { OnOk result (out.new.items ≡ out.old.items ++ phase_lines artery.now timing.now) }
 {
     for signal in 1..artery.count() + 1 {
-        push_phase(out, artery, plan, signal)?;
+        push_phase(out, artery, timing, signal)?;
     }
     Ok(())
 }
 
 /// The lines of a half-cycle plan: its band as a fraction of the cycle, and the phase of each signal.
-fn half_lines(alloc: Global, artery: &Artery, plan: &Timing) -> Result<Vec<u8>, Memory>
-    requires { IsFor artery.now (base plan.now) }
-    ensures { IfOk result (λ lines. lines.items ≡ half_lines artery.now plan.now) }
+fn half_lines(alloc: Global, artery: &Artery, timing: &Timing) -> Result<Vec<u8>, Memory>
+    requires { IsFor artery.now (base timing.now) }
+    ensures { IfOk result (λ lines. lines.items ≡ half_lines artery.now timing.now) }
 {
     let mut lines = Vec::new(alloc);
     push_text(&mut lines, "equal band")?;
-    let share = quotient(plan.band(Dir::Outbound), cycle(artery, plan));
+    let share = quotient(timing.band(Dir::Outbound), timing.base().cycle(artery));
     push_measure_line(&mut lines, share, 6)?;
-    push_phases(&mut lines, artery, plan)?;
+    push_phases(&mut lines, artery, timing)?;
     Ok(lines)
 }
 
@@ -97,12 +102,12 @@ fn unmatched(alloc: Global, end: HalfEnd) -> Result<Found, Memory>
 }
 
 /// The answer with a half-cycle plan, whose text is put.
-fn tell_plan(alloc: Global, artery: &Artery, plan: &Timing) -> Result<Found, Memory>
-    requires { IsFor artery.now (base plan.now) }
-    ensures { IfOk result (λ a. TellsPlan artery.now plan.now a.cause a.lines.items (bytes_of a)) }
+fn tell_plan(alloc: Global, artery: &Artery, made: &Timing) -> Result<Found, Memory>
+    requires { IsFor artery.now (base made.now) }
+    ensures { IfOk result (λ a. TellsPlan artery.now made.now a.cause a.lines.items (bytes_of a)) }
 {
-    let lines = half_lines(alloc, artery, plan)?;
-    let bytes = write_timing(alloc, plan)?;
+    let lines = half_lines(alloc, artery, made)?;
+    let bytes = write_timing(alloc, made)?;
     Ok(Found {
         cause: Cause::Done,
         lines,
@@ -118,7 +123,7 @@ fn half_cycle(alloc: Global, artery: &Artery, timing: &Timing) -> Result<Found, 
     ensures answer { IfOk result (λ a. IsOwnAnswer a.cause (bytes_of a)) }
 {
     match half(alloc, artery, timing) {
-        Ok(Some(plan)) => tell_plan(alloc, artery, &plan),
+        Ok(Some(made)) => tell_plan(alloc, artery, &made),
         Ok(None) => {
             let lines = text_lines(alloc, "no equal band\n")?;
             Ok(told(Cause::Done, lines))

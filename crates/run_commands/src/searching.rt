@@ -40,7 +40,7 @@ pub fn search_and_tell(alloc: Global, artery: &Artery, limit: Option<u64>) -> Re
     ensures searched { IfOk result (λ s. IsSearched artery.now limit s.found) }
     ensures claim { IfOk result (λ s. s.claim ≡ (warrant_of artery.now s.found).claim) }
     ensures text { IfOk result (λ s. IsTextOf s.text.items (warrant_of artery.now s.found)) }
-    ensures good { IfOk result (λ s. IfSome s.found.timing (λ plan. Good artery.now plan)) }
+    ensures good { IfOk result (λ s. IfSome s.found.timing (λ t. Good artery.now t)) }
 {
     let Searched { found, certificate } = search_and_check(alloc, artery, limit)?;
     let text = write_second(alloc, &certificate)?;

@@ -104,7 +104,7 @@ pub const SOLVE: RowParts = (
     &[Setting::Work],
     true,
     "search for a best timing, and put its certificate",
-    "CERT",
+    "NEW",
 );
 
 pub const SOLVE_PAGE: PageParts = (
@@ -331,7 +331,7 @@ pub const LINKS: RowParts = (
     &[Setting::Work],
     true,
     "search for best bands of each link, and put their certificate",
-    "CERT",
+    "NEW",
 );
 
 pub const LINKS_PAGE: PageParts = (

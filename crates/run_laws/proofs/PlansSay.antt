@@ -52,7 +52,7 @@ module _ (before now : Outside) (artery timing : List ℕ) where
       let k = f.answer.finds.finds in
       record {
         street = f.answer.values.0;
-        plan = f.answer.values.1.0;
+        given = f.answer.values.1.0;
         outbound = k.outbound;
         inbound = k.inbound;
         description = f.answer.read.0;
@@ -66,7 +66,7 @@ module _ (before now : Outside) (artery timing : List ℕ) where
   says_no_base : (f : Failing) → Found before now (ask.bands artery timing) (cause.Fails f) → SaysNoBase before now artery timing (cause.Fails f)
   says_no_base f k = record {
     street = k.answer.values.0;
-    plan = k.answer.values.1.0;
+    given = k.answer.values.1.0;
     failing = f;
     description = k.answer.read.0;
     text = k.answer.read.1.0;
@@ -101,15 +101,15 @@ module _ (before now : Outside) (artery timing new : List ℕ) where
         told = subst (λ (l : List ℕ). Appends before.taken now.taken l) h.lines_are f.done.written;
       } in
       let some : (text : List ℕ) → f.answer.bytes ≡ Some text → IsHalfPlan a t f.lines text → PutsHalf before now a t new = λ text e h. record {
-        plan = h.plan;
+        made = h.made;
         best = h.best;
         put = subst (λ (x : List ℕ). HoldsExactly (now.holds new) x) h.written (is_put before now new text f.lines f.put f.answer.bytes f.answer.put_is e f.done).0;
-        read_back = subst (λ (x : List ℕ). timing_of x ≡ Ok h.plan) h.written h.read_back;
+        read_back = subst (λ (x : List ℕ). timing_of x ≡ Ok h.made) h.written h.read_back;
         told = subst (λ (l : List ℕ). Appends before.taken now.taken l) h.lines_are f.done.written;
       } in
       record {
         street = a;
-        plan = t;
+        given = t;
         description = f.answer.read.0;
         text = f.answer.read.1.0;
         base = k.base;
@@ -119,7 +119,7 @@ module _ (before now : Outside) (artery timing new : List ℕ) where
   half_no_base : (f : Failing) → Found before now (ask.half artery timing new) (cause.Fails f) → SaysNoBase before now artery timing (cause.Fails f)
   half_no_base f k = record {
     street = k.answer.values.0;
-    plan = k.answer.values.1.0;
+    given = k.answer.values.1.0;
     failing = f;
     description = k.answer.read.0;
     text = k.answer.read.1.0;
@@ -138,7 +138,7 @@ module _ (before now : Outside) (artery timing new : List ℕ) where
   says_unmatched : OneEnd → (reason : HalfEnd) → Found before now (ask.half artery timing new) (cause.Unmatched reason) → SaysUnmatched before now artery timing (cause.Unmatched reason)
   says_unmatched ends reason k = record {
     street = k.answer.values.0;
-    plan = k.answer.values.1.0;
+    given = k.answer.values.1.0;
     reason = reason;
     description = k.answer.read.0;
     text = k.answer.read.1.0;

@@ -121,9 +121,9 @@ record HasPut (k : Sought) (s : Checked k) (stops : SearchStops k.Timing) (befor
   pub held : HoldsExactly (now.holds certificate) text
   pub tells : Tells k s stops street limit c lines text
 
-best_plan : (k : Sought) (a : Street) (timing : Option k.Timing) (bound : ℚ) → IsBestBy (k.objective a) timing bound → (plan : k.Timing) × (timing ≡ Some plan) × BestOf (k.objective a) plan
+best_plan : (k : Sought) (a : Street) (timing : Option k.Timing) (bound : ℚ) → IsBestBy (k.objective a) timing bound → (found : k.Timing) × (timing ≡ Some found) × BestOf (k.objective a) found
 best_plan k a None bound h = absurd h
-best_plan k a (Some plan) bound h = (plan, refl, h.0)
+best_plan k a (Some found) bound h = (found, refl, h.0)
 
 -- a stop for such a reason spent the whole limit, where it is by work
 abbrev WholeLimits : (T : Type 0) → SearchStops T → Type 0
@@ -155,7 +155,7 @@ module _ (k : Sought) (s : Checked k) (stops : SearchStops k.Timing) (whole : Wh
       ∙ sym (append_assoc first value (t.rest best.0)) in
       record {
         street = a;
-        plan = best.0;
+        timing = best.0;
         description = h.description;
         best = best.2;
         told = (t.rest best.0, subst (λ (l : List ℕ). Appends before.taken now.taken l) lines h.written);
@@ -358,7 +358,7 @@ module _ (rules : FailsRulesOut) (before now : Outside) (artery timing : List �
   says_good : Found before now (ask.hold artery timing) cause.Done → SaysGood before now artery timing
   says_good f = record {
     street = f.answer.values.0;
-    plan = f.answer.values.1.0;
+    given = f.answer.values.1.0;
     description = f.answer.read.0;
     text = f.answer.read.1.0;
     good = f.answer.finds.finds.0;
@@ -368,7 +368,7 @@ module _ (rules : FailsRulesOut) (before now : Outside) (artery timing : List �
   says_broken : (c : Cause) → number_of c ≡ 4 → Found before now (ask.hold artery timing) c → SaysBroken before artery timing c
   says_broken (cause.Fails f) e k = record {
     street = k.answer.values.0;
-    plan = k.answer.values.1.0;
+    given = k.answer.values.1.0;
     failing = f;
     description = k.answer.read.0;
     text = k.answer.read.1.0;

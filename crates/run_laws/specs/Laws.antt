@@ -180,11 +180,11 @@ value_line (Some value) = measure_line (codes "weighted") value 6
 -- A search with status 0: this timing is best on the described artery, its value is told after the verdict, and the file that is put has it, with its value.
 pub record PutsBest (k : Sought) (s : Checked k) (before now : Outside) (artery certificate : List ℕ) : Type 0 where
   pub street : Street
-  pub plan : k.Timing
+  pub timing : k.Timing
   pub description : Describes (before.holds artery) street
-  pub best : BestOf (k.objective street) plan
-  pub told : TellsFirst before now (codes "verdict best\n" ++ value_line (Some ((k.objective street).worth plan)))
-  pub put : HoldsCertificate k s street (now.holds certificate) (claim.Best ((k.objective street).worth plan)) (Some plan)
+  pub best : BestOf (k.objective street) timing
+  pub told : TellsFirst before now (codes "verdict best\n" ++ value_line (Some ((k.objective street).worth timing)))
+  pub put : HoldsCertificate k s street (now.holds certificate) (claim.Best ((k.objective street).worth timing)) (Some timing)
 
 -- With status 1: no timing is good on the described artery, that alone is told, and the file that is put claims it.
 pub record PutsNone (k : Sought) (s : Checked k) (before now : Outside) (artery certificate : List ℕ) : Type 0 where
@@ -258,21 +258,21 @@ pub record HelpSays : Type 0 where
 -- `hold` with status 0: the timing of the second file is good on the artery of the first, and its weighted band is printed
 pub record SaysGood (before now : Outside) (artery timing : List ℕ) : Type 0 where
   pub street : Street
-  pub plan : TimingRecord
+  pub given : TimingRecord
   pub description : Reads Description (before.holds artery) street
-  pub text : Reads Timing (before.holds timing) plan
-  pub good : Good street plan
-  pub told : Appends before.taken now.taken (holds_lines (weighted_band street plan))
+  pub text : Reads Timing (before.holds timing) given
+  pub good : Good street given
+  pub told : Appends before.taken now.taken (holds_lines (weighted_band street given))
 
 -- `hold` with status 4: this rule fails, so that the timing isn't good
 pub record SaysBroken (before : Outside) (artery timing : List ℕ) (c : Cause) : Type 0 where
   pub street : Street
-  pub plan : TimingRecord
+  pub given : TimingRecord
   pub failing : Failing
   pub description : Reads Description (before.holds artery) street
-  pub text : Reads Timing (before.holds timing) plan
-  pub fails : Fails street plan failing
-  pub not_good : ¬ Good street plan
+  pub text : Reads Timing (before.holds timing) given
+  pub fails : Fails street given failing
+  pub not_good : ¬ Good street given
   pub cause_is : c ≡ cause.Fails failing
 
 abbrev pub HoldSays : Type 0

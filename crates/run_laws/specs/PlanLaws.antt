@@ -69,25 +69,25 @@ use Rattle.run_inputs.specs.declared.cause.Cause.TheVariants as cause
 -- over all finer grids
 pub record SaysWidest (before now : Outside) (artery timing : List ℕ) : Type 0 where
   pub street : Street
-  pub plan : TimingRecord
+  pub given : TimingRecord
   pub outbound : Option Widest
   pub inbound : Option Widest
   pub description : Reads Description (before.holds artery) street
-  pub text : Reads Timing (before.holds timing) plan
-  pub outbound_is : IsWidestBand street (base plan) Outbound outbound
-  pub inbound_is : IsWidestBand street (base plan) Inbound inbound
-  pub base : IsBase street (base plan)
-  pub told : Appends before.taken now.taken (widest_line street plan Outbound outbound ++ widest_line street plan Inbound inbound)
+  pub text : Reads Timing (before.holds timing) given
+  pub outbound_is : IsWidestBand street (base given) Outbound outbound
+  pub inbound_is : IsWidestBand street (base given) Inbound inbound
+  pub base : IsBase street (base given)
+  pub told : Appends before.taken now.taken (widest_line street given Outbound outbound ++ widest_line street given Inbound inbound)
 
 -- `bands` and `half` with status 4: this rule of the base fails, and no file has changed
 pub record SaysNoBase (before now : Outside) (artery timing : List ℕ) (c : Cause) : Type 0 where
   pub street : Street
-  pub plan : TimingRecord
+  pub given : TimingRecord
   pub failing : Failing
   pub description : Reads Description (before.holds artery) street
-  pub text : Reads Timing (before.holds timing) plan
-  pub fails : BaseFails street (base plan) failing
-  pub not_base : ¬ IsBase street (base plan)
+  pub text : Reads Timing (before.holds timing) given
+  pub fails : BaseFails street (base given) failing
+  pub not_base : ¬ IsBase street (base given)
   pub cause_is : c ≡ cause.Fails failing
   pub kept : SameFiles before.holds now.holds
 
@@ -98,11 +98,11 @@ BandsSay = (before now : Outside) (artery timing : List ℕ) (c : Cause) → End
 -- ---- half
 -- a timing with the widest equal bands over all offsets on all grids is put and told
 pub record PutsHalf (before now : Outside) (a : Street) (t : TimingRecord) (new : List ℕ) : Type 0 where
-  pub plan : TimingRecord
-  pub best : IsHalfCycleBest a t plan
-  pub put : HoldsExactly (now.holds new) (timing_text plan)
-  pub read_back : timing_of (timing_text plan) ≡ Ok plan
-  pub told : Appends before.taken now.taken (half_lines a plan)
+  pub made : TimingRecord
+  pub best : IsHalfCycleBest a t made
+  pub put : HoldsExactly (now.holds new) (timing_text made)
+  pub read_back : timing_of (timing_text made) ≡ Ok made
+  pub told : Appends before.taken now.taken (half_lines a made)
 
 -- no offsets on any grid have equal bands: no file changes
 pub record SaysNoHalf (before now : Outside) (a : Street) (t : TimingRecord) : Type 0 where
@@ -113,22 +113,22 @@ pub record SaysNoHalf (before now : Outside) (a : Street) (t : TimingRecord) : T
 -- `half` with status 0: one of the two, of a timing whose base keeps its rules
 pub record SaysHalf (before now : Outside) (artery timing new : List ℕ) : Type 0 where
   pub street : Street
-  pub plan : TimingRecord
+  pub given : TimingRecord
   pub description : Reads Description (before.holds artery) street
-  pub text : Reads Timing (before.holds timing) plan
-  pub base : IsBase street (base plan)
-  pub found : SaysNoHalf before now street plan ⊎ PutsHalf before now street plan new
+  pub text : Reads Timing (before.holds timing) given
+  pub base : IsBase street (base given)
+  pub found : SaysNoHalf before now street given ⊎ PutsHalf before now street given new
 
 -- `half` with status 11: the timing can have no half-cycle plan, for this first reason, and no file has changed
 pub record SaysUnmatched (before now : Outside) (artery timing : List ℕ) (c : Cause) : Type 0 where
   pub street : Street
-  pub plan : TimingRecord
+  pub given : TimingRecord
   pub reason : HalfEnd
   pub description : Reads Description (before.holds artery) street
-  pub text : Reads Timing (before.holds timing) plan
-  pub base : IsBase street (base plan)
-  pub first : half.Ends street plan reason
-  pub not_ready : ¬ half.IsReady street plan
+  pub text : Reads Timing (before.holds timing) given
+  pub base : IsBase street (base given)
+  pub first : half.Ends street given reason
+  pub not_ready : ¬ half.IsReady street given
   pub cause_is : c ≡ cause.Unmatched reason
   pub kept : SameFiles before.holds now.holds
 
