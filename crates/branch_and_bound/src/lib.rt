@@ -10,7 +10,7 @@
 //!   being a box with the boxes above it: `BoxLine`, `Fills`, `Finds`, `total`, `line_after`. `Matchings`: trees whose nodes correspond.
 //! - `Choices`: how many choices of block sums and ranks a box has; each split shares them out.
 //! - `Lineages`: how the pivots of a box end, and `IsLineage`, the lines of boxes that a search can meet.
-//! - `Rules`: the record, with its six laws. `Unfinished`: boxes whose steps didn't come to a leaf. `Opening`: what opening
+//! - `Rules`: the record, with its six laws. `Unfinished`: boxes whose steps didn't come to a leaf. `OpenedNodes`: what opening
 //!   a box answers, in units of work, which the `Meter` of `work_meter` counts.
 //! - `Answer`: `IsAccepted`, `IsSorted`, `StopCase`, `IsNeeded`, `IsOpenBound`, and the three verdicts.
 //! - `Enough`: how many units are enough.

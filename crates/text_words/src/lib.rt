@@ -2,7 +2,7 @@
 //! typed plan that is read.
 //!
 //! Contracts see a timing, a certificate and a plan as their crates do. `specs/Faults` has the lines about a bad line and `specs/Grammar` what
-//! the grammar wants at each line, by the first line of the text, the verdict of a certificate and what its tree still owes (`specs/OwedLines`); `specs/Claims` has those of timings and
+//! the grammar wants at each line, by the first line of the text, the verdict of a certificate and what its tree still owes (`specs/Owed`); `specs/Claims` has those of timings and
 //! certificates and `specs/Plans` those of plans. Start with `push_bad_text`, `push_timing_words`, `push_certificate_words`,
 //! `push_link_certificate_words` and `push_plan_words`.
 #![tactic(auto)]

@@ -3,7 +3,7 @@
 //! Start with `steady`, whose answer stands in `specs/Steady.antt`: the plan of the offsets nearest to those of a base that keeps the rules, moved until no
 //! move leads to a better plan. `specs/Offsets.antt` says what the plan of given offsets is. Its bands are the widest with any runs
 //! within the limits of speed, then cut to the ratio rule and to equal bands (`band_measure::cut`); on a street with limits of the
-//! change of pace its runs are those of that base. `specs/TickScale.antt` has its grid, on which seconds, parts and some run of each link
+//! change of pace its runs are those of that base. `specs/Scale.antt` has its grid, on which seconds, parts and some run of each link
 //! are whole ticks, and the first of its numbers that no timing holds. A good plan is the best with its grid, cycle, patterns and offsets.
 //!
 //! Plans are compared by `is_better` (`specs/Score.antt`), also those of different cycles: fewer directions without a line, then bands

@@ -1,7 +1,7 @@
 //! The widest plan in whole seconds that is found over several cycles, with speeds free.
 //!
 //! Start with `whole_plan`, whose answer is `IsWholePlan`, and its ends `Ends` (`specs/Planned.antt`). Of each cycle the street with it alone
-//! is searched within 10,000 units of work (`specs/CycleFound.antt`), and the offsets start from the timing that was found, or from the given
+//! is searched within 10,000 units of work (`specs/Sought.antt`), and the offsets start from the timing that was found, or from the given
 //! one where none was; what comes of it is a set of offsets from which no move is better, by `whole_offsets`, or a reason for which there
 //! is none (`specs/Sets.antt`). `specs/Choice.antt` says which set is chosen: of those whose plan is good the one of the greatest weighted
 //! band, of equal ones that of the first cycle; a cycle is passed over where no timing of it is wider than the widest plan before it. Where no
